@@ -1,0 +1,4 @@
+-- the numbers of the test are small
+pub mod DemandLaws
+-- the walk, a task at a time
+pub mod WalkLaws

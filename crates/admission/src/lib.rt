@@ -1,0 +1,136 @@
+// The admission test: for any bytes, a verdict that a dealer can believe. specs/Verdicts.antt says
+// what it is, specs/Figure.antt what limit and figure are.
+ghost use mathlib.Core.Path.{_≡_};
+ghost use Prim.Native.Nat.{ℕ, _+_, _*_, _≤_, _<_};
+ghost use Rattle.theory.specs.Round.{ceil as theory·ceil};
+ghost use Rattle.theory.specs.Sum.{sumTo};
+ghost use Rattle.theory.specs.System.{demand as theory·demand};
+ghost use Rattle.table.specs.Sound.{readOf};
+ghost use Rattle.table.specs.Set.{rulesOf};
+ghost use Rattle.table.specs.declared.Reading.the-variants.{Sound};
+ghost use Rattle.admission.specs.Figure.{waiting};
+ghost use Rattle.admission.specs.Verdicts.{Tasks, walkFrom, admitOf, zeros};
+use table::PLACES;
+use table::Reading;
+use table::Refusal;
+use table::read;
+use table::record_at;
+
+pub enum Answer {
+    Admitted { tasks: u32 },
+    Refused(Refusal),
+}
+
+// The answer and, by task from place 0 on, window, response figure and rounds. Under refusal 5 the
+// tasks before the failing one have theirs; places that nothing fills are zero.
+pub struct Verdict {
+    pub answer: Answer,
+    pub windows: [u32; 16],
+    pub figures: [u32; 16],
+    pub rounds: [u32; 16],
+}
+
+// The verdict on any bytes: refusals 1 to 5, or admitted with the number of tasks.
+pub fn admit(table: &[u8]) -> Verdict
+    ensures { λ r. ⌜ r ≡ admitOf (now (table .entry)) ⌝ }
+{
+    let reading = read(table);
+    match reading {
+        Reading::Sound { tasks } => walk(table, tasks),
+        Reading::Refused(refusal) => Verdict {
+            answer: Answer::Refused(refusal),
+            windows: [0u32; 16],
+            figures: [0u32; 16],
+            rounds: [0u32; 16],
+        },
+    }
+}
+
+// The walk over tasks and rounds, which stops at the first task without a window.
+fn walk(table: &[u8], n: u32) -> Verdict
+    requires { ⌜ readOf (now table) ≡ Sound n ⌝ }
+    ensures { λ r. ⌜ r ≡ walkFrom (rulesOf (now (table .entry))) n 0 zeros zeros zeros ⌝ }
+{
+    let mut windows = [0u32; 16];
+    let mut figures = [0u32; 16];
+    let mut rounds = [0u32; 16];
+    let mut answer = Answer::Admitted { tasks: n };
+    let sleep = record_at(table, 0);
+    let mut i: u32 = 0;
+    'tasks: while i < n {
+        let at = i as usize;
+        let task = record_at(table, at + 1);
+        let waiting = wait(i, sleep.period);
+        let limit = task.period - waiting;
+        let mut w = task.work + sleep.work;
+        let mut k: u32 = 0;
+        'rounds: loop {
+            if limit < w {
+                answer = Answer::Refused(Refusal::NoWindow {
+                    task: i + 1,
+                    rounds: k,
+                });
+                break 'tasks;
+            }
+            let d = demand(table, i, w);
+            k += 1;
+            if d == w {
+                break 'rounds;
+            }
+            w = d;
+        }
+        windows[at] = w;
+        figures[at] = w + waiting;
+        rounds[at] = k;
+        i += 1;
+    }
+    Verdict {
+        answer: answer,
+        windows: windows,
+        figures: figures,
+        rounds: rounds,
+    }
+}
+
+// The demand of a window of w ticks at task i, from 0.
+fn demand(table: &[u8], i: u32, w: u32) -> u32
+    requires { ⌜ Tasks (now table) (i + 1) × (w ≤ 60000) ⌝ }
+    ensures { λ r. ⌜ r ≡ theory·demand (rulesOf (now (table .entry))) i w ⌝ }
+{
+    let sleep = record_at(table, 0);
+    let task = record_at(table, i as usize + 1);
+    let k = ceil(w, sleep.period);
+    let above = jobs_above(table, i, k * sleep.period);
+    task.work + k * sleep.work + above
+}
+
+// The work of the jobs of tasks 0 to i - 1 that come in a span of ticks.
+fn jobs_above(table: &[u8], i: u32, span: u32) -> u32
+    requires { ⌜ Tasks (now table) i × (span ≤ 120000) ⌝ }
+    ensures { λ r. ⌜ r ≡ sumTo i (λ j. rulesOf (now (table .entry)) .C j * theory·ceil span (rulesOf (now (table .entry)) .T j)) ⌝ }
+{
+    let mut sum: u32 = 0;
+    let mut j: u32 = 0;
+    while j < i {
+        let task = record_at(table, j as usize + 1);
+        sum += task.work * ceil(span, task.period);
+        j += 1;
+    }
+    sum
+}
+
+// How long a job of task i, from 0, may wait for its boundary.
+fn wait(i: u32, h: u32) -> u32
+    requires { ⌜ 1 ≤ h ⌝ }
+    ensures { λ r. ⌜ r ≡ waiting i h ⌝ }
+{
+    if i == 0 { 0 } else { h - 1 }
+}
+
+// a / b, rounded up.
+fn ceil(a: u32, b: u32) -> u32
+    requires { ⌜ (1 ≤ b) × (a + b ≤ 1000000000) ⌝ }
+    ensures { λ r. ⌜ r ≡ theory·ceil a b ⌝ }
+{
+    (a + (b - 1)) / b
+}

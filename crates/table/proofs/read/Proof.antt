@@ -1,0 +1,120 @@
+-- `table::read` meets its contract: the tests stand in the order of their numbers, and past each the reading is that of
+-- the tests after it.
+use Prim.Native.Nat.{ℕ}
+use borrow.Author.Needs.{needs}
+use borrow.Author.Tests.{lt-ltb, le-ltb, lt-leb, le-leb, eq-eqb, ne-eqb}
+use mathlib.Core.List.{List}
+use mathlib.Core.Path.{_≡_, sym, _∙_}
+use native.Mathlib.Omega.{arith}
+use Rattle.table.specs.Bytes.{recordAt, recordsIn}
+use Rattle.table.specs.Sound.{harmonized, from2, from3, from4, readOf}
+use Rattle.table.specs.declared.Reading.{Reading}
+use Rattle.table.specs.declared.Record.{Record}
+use Rattle.table.proofs.read.Statement.{statement}
+use Rattle.table.proofs.read.Tie as tie
+
+-- the records of the table at hand
+abbrev of : ((ℕ → Record) → ℕ → Reading) → List ℕ → Reading
+of f table = f (recordAt table) (recordsIn table)
+
+past-1 : (c : tie.Else3) → readOf (c .before .before .before .before .args .table .now) ≡ of from2 (c .before .before .before .before .args .table .now)
+unfolding readOf
+past-1 c = rw (eq-eqb _ _ (c .before .before .if1 .left), le-leb _ _ (c .before .if2 .left), le-leb _ _ (c .if3 .left))
+
+past-2 : (c : tie.Else4) → readOf (c .before .before .before .before .before .before .args .table .now) ≡ of from3 (c .before .before .before .before .before .before .args .table .now)
+unfolding from2
+past-2 c = let e = c .before .first-broken .ensures in past-1 (c .before .before) ∙ rw (← e, le-ltb _ _ (c .if4 .left))
+
+past-3 : (c : tie.Else5) → readOf (c .before .before .before .before .before .before .before .before .args .table .now) ≡ of from4 (c .before .before .before .before .before .before .before .before .args .table .now)
+unfolding from3
+past-3 c = let e = c .before .first-falling .ensures in past-2 (c .before .before) ∙ rw (← e, le-ltb _ _ (c .if5 .left))
+
+-- what was asked of records 0 and 1
+fits : (c : tie.After-harmonious)
+    → harmonized (recordAt (c .before .before .before .before .before .before .before .before .before .before .before .args .table .now) 0) (recordAt (c .before .before .before .before .before .before .before .before .before .before .before .args .table .now) 1) ≡ c .harmonious .result
+fits c = cc
+
+returns : tie.Need-returns
+unfolding readOf
+returns c = rw (ne-eqb _ _ (c .if1 .taken))
+
+returns-2 : tie.Need-returns-2
+unfolding readOf
+returns-2 c = rw (eq-eqb _ _ (c .before .if1 .left), lt-leb _ _ (c .if2 .taken))
+
+add-if3 : tie.Need-add-if3
+add-if3 c = search needs
+
+returns-3 : tie.Need-returns-3
+unfolding readOf
+returns-3 c =
+    rw (eq-eqb _ _ (c .before .before .if1 .left), le-leb _ _ (c .before .if2 .left), lt-leb _ _ (c .if3 .taken))
+
+first-broken-requires : tie.Need-first-broken-requires
+first-broken-requires c κs = search needs
+
+cast-t13 : tie.Need-cast-t13
+cast-t13 c = search needs
+
+returns-4 : tie.Need-returns-4
+unfolding from2
+returns-4 c =
+    let e = c .before .first-broken .ensures in
+    sym (past-1 (c .before .before) ∙ rw (← e, lt-ltb _ _ (c .if4 .taken)))
+
+first-falling-requires : tie.Need-first-falling-requires
+first-falling-requires c κs = search needs
+
+cast-t15 : tie.Need-cast-t15
+cast-t15 c = search needs
+
+returns-5 : tie.Need-returns-5
+unfolding from3
+returns-5 c =
+    let e = c .before .first-falling .ensures in
+    sym (past-2 (c .before .before) ∙ rw (← e, lt-ltb _ _ (c .if5 .taken)))
+
+record-at-requires : tie.Need-record-at-requires
+record-at-requires c κs = search needs
+
+record-at-requires-2 : tie.Need-record-at-requires-2
+record-at-requires-2 c κs = search needs
+
+harmonious-requires : tie.Need-harmonious-requires
+harmonious-requires c κs = search needs
+
+sub-t19 : tie.Need-sub-t19
+sub-t19 c = search needs
+
+cast-t20 : tie.Need-cast-t20
+cast-t20 c = search needs
+
+returns-6 : tie.Need-returns-6
+unfolding from4
+returns-6 c = sym (past-3 (c .before .before .before .before) ∙ rw (fits (c .before), c .if6 .taken))
+
+returns-7 : tie.Need-returns-7
+unfolding from4
+returns-7 c = sym (past-3 (c .before .before .before .before) ∙ rw (fits (c .before), c .if6 .left))
+
+pub read-spec : {M : Type 1} → statement M
+read-spec =
+    tie.close
+    (tie.spec
+    returns
+    returns-2
+    add-if3
+    returns-3
+    first-broken-requires
+    cast-t13
+    returns-4
+    first-falling-requires
+    cast-t15
+    returns-5
+    record-at-requires
+    record-at-requires-2
+    harmonious-requires
+    sub-t19
+    cast-t20
+    returns-6
+    returns-7)

@@ -1,0 +1,14 @@
+pub mod Split
+pub mod First
+pub mod Round
+pub mod Sum
+pub mod System
+pub mod Ready
+pub mod Reachable
+pub mod Window
+pub mod Rounds
+pub mod Response
+pub mod Worst
+pub mod Figures
+pub mod Run
+pub mod Tail
