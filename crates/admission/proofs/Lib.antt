@@ -2,3 +2,5 @@
 pub mod DemandLaws
 -- the walk, a task at a time
 pub mod WalkLaws
+-- what a verdict says
+pub mod AdmitLaws

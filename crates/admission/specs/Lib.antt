@@ -2,3 +2,5 @@
 pub mod Figure
 -- the walk over the tasks of a table, and the verdict
 pub mod Verdicts
+-- what a verdict says, as facts
+pub mod Says

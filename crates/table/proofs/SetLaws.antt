@@ -14,8 +14,9 @@ use Rattle.table.specs.declared.Record.{Record}
 use Rattle.table.specs.declared.Reading.the-variants as Reading
 use Rattle.table.specs.Bytes.{recordsIn, recordAt}
 use Rattle.table.specs.Sound.{largest, places, readOf}
+use Rattle.table.specs.Rules.{Sound-set}
 use Rattle.table.specs.Set.{rulesFrom}
-use Rattle.table.proofs.SoundLaws.{Sound-set, records-are, read-sound}
+use Rattle.table.proofs.SoundLaws.{records-are, read-sound}
 
 module _ (set : ℕ → Record) (n : ℕ) where
   -- C and T of a task are its record's

@@ -15,6 +15,7 @@ use Rattle.table.specs.declared.Refusal.{Refusal}
 use Rattle.table.specs.declared.Refusal.the-variants.{Length, Broken, Falling, Sleep}
 use Rattle.table.specs.declared.Reading.{Reading}
 use Rattle.table.specs.declared.Reading.the-variants.{Sound, Refused}
+use Rattle.table.specs.Rules.{Lawful, Sound-set, Sound-table}
 use Rattle.table.specs.Bytes.{recordsIn, recordAt}
 use Rattle.table.specs.Sound.{largest, places, lawful, harmonized, broken, falling, firstBroken, firstFalling, from2, from3, from4, lengthFits, readOf}
 
@@ -32,13 +33,6 @@ passed false x y r n e = (refl, e)
 refused-not : (f : Refusal) (n : ℕ) → Refused f ≡ Sound n → ⊥
 refused-not f n e = let z : _≡_ {A = ℕ} 0 1 = cc in omega arith
 
--- the rule of C, T and the reserved field
-pub record Lawful (r : Record) : Type 0 where
-  pub some : 1 ≤ r .work
-  pub within : r .work ≤ r .period
-  pub small : r .period ≤ largest
-  pub spare : r .reserved ≡ 0
-
 -- what the test of the rule says
 pub lawful-says : (r : Record) → lawful r ≡ true → Lawful r
 lawful-says r e =
@@ -55,14 +49,6 @@ lawful-says r e =
 -- and that it is passed where the rule holds
 pub says-lawful : (r : Record) → Lawful r → lawful r ≡ true
 says-lawful r L = rw (le-leb _ _ (L .some), le-leb _ _ (L .within), le-leb _ _ (L .small), eq-eqb _ _ (L .spare))
-
--- The rules of document 01 on a set of n tasks
-pub record Sound-set (set : ℕ → Record) (n : ℕ) : Type 0 where
-  pub some : 1 ≤ n
-  pub lawful-at : (k : ℕ) → k ≤ n → Lawful (set k)
-  pub ordered : (k : ℕ) → 2 ≤ k → k ≤ n → set (k - 1) .period ≤ set k .period
-  pub room : set 0 .work < set 0 .period
-  pub whole : set 1 .period % set 0 .period ≡ 0
 
 -- the reading of records is sound only where the rules hold
 pub from2-sound : (set : ℕ → Record) (count n : ℕ) → 2 ≤ count → from2 set count ≡ Sound n → (count ≡ n + 1) × Sound-set set n
@@ -108,12 +94,6 @@ sound-from2 set n S =
     let none3' : n + 1 ≤ firstFalling set (n + 1) = omega arith in
     let less : n + 1 - 1 ≡ n = omega arith in
     rw (le-ltb _ _ none2, le-ltb _ _ none3', lt-ltb _ _ (S .room), eq-eqb _ _ (S .whole), less)
-
--- a table of n tasks: 16 bytes for each of its records
-pub record Sound-table (bytes : List ℕ) (n : ℕ) : Type 0 where
-  pub length-is : length bytes ≡ 16 * (n + 1)
-  pub few : n ≤ places
-  pub set : Sound-set (recordAt bytes) n
 
 -- how many records that is
 pub records-are : (bytes : List ℕ) (n : ℕ) → length bytes ≡ 16 * (n + 1) → recordsIn bytes ≡ n + 1

@@ -4,5 +4,7 @@ pub mod Refusals
 pub mod Bytes
 -- when a table is sound, and which refusal it gets where it is not
 pub mod Sound
+-- the same rules as facts
+pub mod Rules
 -- the set that a table describes, as the theory's rules
 pub mod Set
