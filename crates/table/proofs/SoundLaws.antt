@@ -15,6 +15,7 @@ use Rattle.table.specs.declared.Refusal.{Refusal}
 use Rattle.table.specs.declared.Refusal.the-variants.{Length, Broken, Falling, Sleep}
 use Rattle.table.specs.declared.Reading.{Reading}
 use Rattle.table.specs.declared.Reading.the-variants.{Sound, Refused}
+use Rattle.table.specs.Refusals.{toldOf}
 use Rattle.table.specs.Rules.{Lawful, Sound-set, Sound-table}
 use Rattle.table.specs.Bytes.{recordsIn, recordAt}
 use Rattle.table.specs.Sound.{largest, places, lawful, harmonized, broken, falling, firstBroken, firstFalling, from2, from3, from4, lengthFits, readOf}
@@ -122,3 +123,31 @@ sound-read bytes n S =
     let two : 2 ≤ recordsIn bytes = omega arith in
     let most : recordsIn bytes ≤ 1 + places = omega arith in
     rw (eq-eqb _ _ whole, le-leb _ _ two, le-leb _ _ most, count) (sound-from2 (recordAt bytes) n (S .set))
+
+-- a property of both choices is one of the choice
+pub either {ℓ} : {A : Type 0} (P : A → Type ℓ) (b : Bool) (x y : A) → P x → P y → P (cond b x y)
+either P true x y p q = p
+either P false x y p q = q
+
+-- a reading gives refusals 1 to 4 and no other
+abbrev Below-5 : Reading → Type 0
+Below-5 (Sound n) = Unit {0}
+Below-5 (Refused refusal) = toldOf refusal .number ≤ 4
+
+below-5 : (bytes : List ℕ) → Below-5 (readOf bytes)
+unfolding readOf from2 from3 from4
+below-5 bytes =
+    either Below-5 (lengthFits bytes) (from2 set count) (Refused Length)
+    (either Below-5 (ltb (firstBroken set count) count) (Refused (Broken (firstBroken set count))) (from3 set count) (omega arith)
+    (either Below-5 (ltb (firstFalling set count) count) (Refused (Falling (firstFalling set count))) (from4 set count) (omega arith)
+    (either Below-5 (harmonized (set 0) (set 1)) (Sound (count - 1)) (Refused Sleep) tt (omega arith))))
+    (omega arith)
+  where
+    set : ℕ → Record
+    set = recordAt bytes
+
+    count : ℕ
+    count = recordsIn bytes
+
+pub read-numbers : (bytes : List ℕ) (refusal : Refusal) → readOf bytes ≡ Refused refusal → toldOf refusal .number ≤ 4
+read-numbers bytes refusal e = rw e at (below-5 bytes)
