@@ -100,7 +100,9 @@ fn demand(table: &[u8], i: u32, w: u32) -> u32
     let sleep = record_at(table, 0);
     let task = record_at(table, i as usize + 1);
     let k = ceil(w, sleep.period);
-    let above = jobs_above(table, i, k * sleep.period);
+    // A job that came during the wait runs in the window too: the jobs above are counted over k * H.
+    let span = k * sleep.period;
+    let above = jobs_above(table, i, span);
     task.work + k * sleep.work + above
 }
 

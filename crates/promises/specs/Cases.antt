@@ -18,7 +18,6 @@ use Rattle.admission.specs.Figure.{waiting}
 use Rattle.admission.specs.Verdicts.{verdict, walkFrom, zeros, admitOf}
 
 infixl 80 _per_
-
 -- a record by its work and period
 pub data Row : Type 0 where
   _per_ : ℕ → ℕ → Row

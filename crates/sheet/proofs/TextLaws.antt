@@ -11,7 +11,6 @@ use Rattle.sheet.specs.declared.Page.{Page}
 use Rattle.sheet.specs.Pages.{put, shown}
 use Rattle.sheet.specs.Listing.{digits, decimal}
 
-
 -- one text after another
 pub shown-append : (page : Page) (a b : List ℕ) → shown page (a ++ b) ≡ shown (shown page a) b
 unfolding shown

@@ -52,8 +52,8 @@ ceil-requires c κs =
     let a = c .before .before .before in
     rw (c .before .record-at .ensures) (omega (arith, a .pre .1, sleep-at (a .args .table .now) (a .args .i + 1) (a .pre .0)))
 
-mul-jobs-above : tie.Need-mul-jobs-above
-mul-jobs-above c = omega (arith, span (c .before))
+mul-span : tie.Need-mul-span
+mul-span c = omega (arith, span (c .before))
 
 jobs-above-requires : tie.Need-jobs-above-requires
 jobs-above-requires c κs =
@@ -90,7 +90,7 @@ demand-spec =
     add-record-at
     record-at-requires-2
     ceil-requires
-    mul-jobs-above
+    mul-span
     jobs-above-requires
     mul-result
     add-result
