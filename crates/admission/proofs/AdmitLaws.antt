@@ -2,29 +2,25 @@
 -- so the rows of the tasks before it are right, those behind it zero, and where the walk comes to its end every task
 -- has a window.
 use Prim.Native.Nat.{ℕ, zero, suc, _+_, _-_, _≤_, _<_}
-use mathlib.Core.Path.{_≡_, refl, ap, sym, _∙_}
+use mathlib.Core.Path.{_≡_, refl, ap}
 use mathlib.Core.Logic.{_↔_}
 use mathlib.Core.List.{List}
 use native.Mathlib.Omega.{arith}
-use native.Mathlib.Numerals.{add-one}
-use lib.ListN.{length, getD, set, replicate, length-set, getD-replicate, List·getD-eq-default}
+use lib.ListN.{length, getD, set, length-set, getD-replicate, List·getD-eq-default}
 use lib.Seq.{getD-set-same, getD-set-other}
 use Rattle.theory.specs.Split.{by-lt, by-eq}
-use Rattle.theory.specs.System.{Rules, Sound, demand}
-use Rattle.theory.specs.Rounds.{Outcome, found, none, outcome, Found, Passed, Says, outcome-says, Window, found-window, passed-none}
-use Rattle.table.specs.declared.Refusal.{Refusal}
+use Rattle.theory.specs.System.{Rules, Sound}
+use Rattle.theory.specs.Rounds.{Outcome, found, none, outcome, Passed, Says, outcome-says, found-window, passed-none}
 use Rattle.table.specs.declared.Refusal.the-variants.{NoWindow}
 use Rattle.table.specs.declared.Reading.the-variants as read
 use Rattle.table.specs.Bytes.{recordAt, recordsIn}
 use Rattle.table.specs.Sound.{places, readOf}
 use Rattle.table.specs.Set.{rulesOf}
 use Rattle.table.proofs.SetLaws.{read-set, set-sound}
-use Rattle.admission.specs.declared.Answer.{Answer}
 use Rattle.admission.specs.declared.Answer.the-variants.{Admitted, Refused}
-use Rattle.admission.specs.declared.Verdict.{Verdict}
 use Rattle.admission.specs.Figure.{limit, figure}
 use Rattle.admission.specs.Says.{Row, Rows, Judged, admitted, refused, Has-window}
-use Rattle.admission.specs.Verdicts.{verdict, judged, walkFrom, zeros, admitOf}
+use Rattle.admission.specs.Verdicts.{judged, walkFrom, zeros, admitOf}
 
 -- the rows of an answer at the walk's start
 rows-none : (R : Rules) → Rows R 0 zeros zeros zeros

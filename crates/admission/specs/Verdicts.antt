@@ -5,7 +5,6 @@ use mathlib.Core.List.{List}
 use lib.ListN.{set, replicate}
 use Rattle.theory.specs.System.{Rules}
 use Rattle.theory.specs.Rounds.{Outcome, found, none, outcome}
-use Rattle.table.specs.declared.Refusal.{Refusal}
 use Rattle.table.specs.declared.Refusal.the-variants.{NoWindow}
 use Rattle.table.specs.declared.Reading.{Reading}
 use Rattle.table.specs.declared.Reading.the-variants as read

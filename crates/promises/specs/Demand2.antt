@@ -2,7 +2,7 @@
 -- limit, that holds its demand; the figures and counts reported are the defined ones." Each theorem speaks of
 -- `admitOf`, which the contract of `admission::admit` gives as its whole result, for every table of bytes.
 use Prim.Native.Nat.{ℕ, _+_, _<_}
-use mathlib.Core.Path.{_≡_, ap}
+use mathlib.Core.Path.{_≡_}
 use mathlib.Core.Logic.{_↔_}
 use mathlib.Core.List.{List}
 use Rattle.table.specs.declared.Refusal.{Refusal}
@@ -14,7 +14,7 @@ use Rattle.table.specs.Set.{rulesOf}
 use Rattle.table.proofs.SoundLaws.{read-sound, sound-read}
 use Rattle.admission.specs.declared.Answer.the-variants.{Admitted, Refused}
 use Rattle.admission.specs.Says.{Has-window, Judged}
-use Rattle.admission.specs.Verdicts.{verdict, verdictOf, zeros, admitOf}
+use Rattle.admission.specs.Verdicts.{verdict, zeros, admitOf}
 use Rattle.admission.proofs.AdmitLaws as laws
 
 -- a table reads as sound exactly when document 01's rules hold of it

@@ -1,6 +1,6 @@
 -- The rules of a sound set are what the theory asks of a set: S below H, every work and period at least 1, the first
 -- period a multiple of H, and so no period below H.
-use Prim.Native.Nat.{ℕ, zero, suc, _+_, _-_, _*_, _/_, _%_, _≤_, _<_}
+use Prim.Native.Nat.{ℕ, zero, suc, _+_, _-_, _*_, _/_, _≤_, _<_}
 use mathlib.Core.Path.{_≡_, refl}
 use mathlib.Core.List.{List}
 use mathlib.Core.Bool.{Bool, true, false, cond}
@@ -9,7 +9,7 @@ use native.Mathlib.Nat.{div-add-mod', mod-eq-of-lt}
 use lib.Dec.{ltb}
 use borrow.Author.Tests.{ltb-true, lt-ltb}
 use Rattle.theory.specs.Split.{by-lt}
-use Rattle.theory.specs.System.{Rules, Sound}
+use Rattle.theory.specs.System.{Sound}
 use Rattle.table.specs.declared.Record.{Record}
 use Rattle.table.specs.declared.Reading.the-variants as Reading
 use Rattle.table.specs.Bytes.{recordsIn, recordAt}

@@ -1,15 +1,15 @@
 -- A reading is sound exactly when every rule holds. Each number's test, passed, gives its rule; the searches of numbers
 -- 2 and 3 give theirs for every record, since nothing was found before their end.
-use Prim.Native.Nat.{ℕ, zero, suc, _+_, _-_, _*_, _/_, _%_, _≤_, _<_}
-use mathlib.Core.Path.{_≡_, refl, ap, sym, _∙_}
+use Prim.Native.Nat.{ℕ, _+_, _-_, _*_, _%_, _≤_, _<_}
+use mathlib.Core.Path.{_≡_, refl}
 use mathlib.Core.List.{List}
-use mathlib.Core.Bool.{Bool, true, false, cond, not, _&&_, and-eq-true-iff}
+use mathlib.Core.Bool.{Bool, true, false, cond, _&&_, and-eq-true-iff}
 use native.Mathlib.Omega.{arith}
 use lib.Dec.{leb, ltb, eqb}
 use lib.ListN.{length}
 use borrow.Author.Tests.{leb-true, ltb-true, ltb-false, eqb-true, not-false, le-leb, lt-ltb, le-ltb, eq-eqb}
 use Rattle.theory.specs.Split.{by-lt}
-use Rattle.theory.specs.First.{firstFrom, Is-first, first-is}
+use Rattle.theory.specs.First.{firstFrom, first-is}
 use Rattle.table.specs.declared.Record.{Record}
 use Rattle.table.specs.declared.Refusal.{Refusal}
 use Rattle.table.specs.declared.Refusal.the-variants.{Length, Broken, Falling, Sleep}

@@ -1,5 +1,5 @@
 -- Document 01, "The table": records of 16 bytes, numbers little-endian, 32 bits each.
-use Prim.Native.Nat.{ℕ, _+_, _*_, _/_, _≤_, _<_}
+use Prim.Native.Nat.{ℕ, _+_, _*_, _/_}
 use mathlib.Core.List.{List}
 use mathlib.Core.Bool.{cond}
 use lib.Dec.{leb, ltb}

@@ -1,14 +1,13 @@
 -- Document 01, "The table" and refusals 1 to 4: the rules of a set, given by its records by number (record 0 the sleep
 -- record), and the first refusal that applies. The rules speak of records by number, not of bytes, so that a state that
 -- holds its records elsewhere is held to the same ones.
-use Prim.Native.Nat.{ℕ, _+_, _-_, _*_, _/_, _%_}
+use Prim.Native.Nat.{ℕ, _+_, _-_, _%_}
 use mathlib.Core.List.{List}
-use mathlib.Core.Bool.{Bool, true, false, cond, not, _&&_, _||_}
+use mathlib.Core.Bool.{Bool, cond, not, _&&_}
 use lib.Dec.{leb, ltb, eqb}
 use lib.ListN.{length}
 use Rattle.theory.specs.First.{firstFrom}
 use Rattle.table.specs.declared.Record.{Record}
-use Rattle.table.specs.declared.Refusal.{Refusal}
 use Rattle.table.specs.declared.Refusal.the-variants.{Length, Broken, Falling, Sleep}
 use Rattle.table.specs.declared.Reading.{Reading}
 use Rattle.table.specs.declared.Reading.the-variants.{Sound, Refused}

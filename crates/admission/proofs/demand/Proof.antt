@@ -1,10 +1,8 @@
 -- `admission::demand` meets its contract: its parts are those of the definition, and small.
-use Prim.Native.Nat.{_≤_, _-_, _*_, _+_}
+use Prim.Native.Nat.{_≤_, _*_, _+_}
 use borrow.Author.Needs.{needs}
-use mathlib.Core.Path.{_≡_}
 use native.Mathlib.Omega.{arith}
 use Rattle.admission.proofs.DemandLaws.{Parts, parts-small, table-small, few-tasks, work-at, sleep-at}
-use Rattle.admission.specs.Verdicts.{Tasks}
 use Rattle.table.specs.Set.{rulesOf}
 use Rattle.theory.specs.System.{demand}
 use Rattle.admission.proofs.demand.Statement.{statement}

@@ -2,7 +2,7 @@
 -- period and the span, so nothing wraps.
 use Prim.Native.Nat.{_≤_, _-_, _*_, _+_}
 use borrow.Author.Needs.{needs}
-use mathlib.Core.Path.{_≡_, sym}
+use mathlib.Core.Path.{_≡_}
 use native.Mathlib.Numerals.{add-one}
 use native.Mathlib.Omega.{arith}
 use Rattle.admission.proofs.DemandLaws.{term-most, terms-most, table-small, few-tasks, work-at, period-at}

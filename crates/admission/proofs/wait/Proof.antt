@@ -2,7 +2,6 @@
 use Prim.Native.Nat.{ℕ, zero, suc, _-_}
 use borrow.Author.Needs.{needs}
 use mathlib.Core.Path.{_≡_, refl}
-use native.Mathlib.Omega.{arith}
 use Rattle.admission.specs.Figure.{waiting}
 use Rattle.admission.proofs.wait.Statement.{statement}
 use Rattle.admission.proofs.wait.Tie as tie

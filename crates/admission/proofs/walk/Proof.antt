@@ -1,6 +1,6 @@
 -- `admission::walk` meets its contract. The rounds from here end as the whole search of the task does, and the walk from
 -- here gives the verdict of the whole walk. The values rise, so that the rounds end.
-use Prim.Native.Nat.{ℕ, _≤_, _<_, _-_, _*_, _+_}
+use Prim.Native.Nat.{ℕ, _≤_, _<_, _-_, _+_}
 use borrow.Author.Needs.{needs}
 use lib.ListN.{replicate}
 use mathlib.Core.List.{List}
@@ -9,7 +9,7 @@ use native.Mathlib.Omega.{arith}
 use Rattle.admission.proofs.DemandLaws.{table-sound, table-small, few-tasks, work-at, period-at, period-not-below, sleep-at}
 use Rattle.admission.proofs.WalkLaws.{walk-step, waiting-most}
 use Rattle.admission.specs.Figure.{waiting, wait, limit}
-use Rattle.admission.specs.Verdicts.{Tasks, judged, walkFrom, zeros}
+use Rattle.admission.specs.Verdicts.{Tasks, walkFrom, zeros}
 use Rattle.admission.specs.declared.Answer.the-variants.{Admitted}
 use Rattle.table.specs.Set.{rulesOf}
 use Rattle.table.specs.declared.Record.{Record}

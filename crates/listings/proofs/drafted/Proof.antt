@@ -1,7 +1,6 @@
 -- `listings::drafted` is safe: at most 18 records are written.
 use Prim.Native.Nat.{_≤_, _-_}
 use borrow.Author.Needs.{needs}
-use native.Mathlib.Omega.{arith}
 use Rattle.listings.proofs.drafted.Statement.{statement}
 use Rattle.listings.proofs.drafted.Tie as tie
 

@@ -1,7 +1,6 @@
 -- `listings::house` is safe: five records are labelled.
 use Prim.Native.Nat.{_≤_, _-_}
 use borrow.Author.Needs.{needs}
-use native.Mathlib.Omega.{arith}
 use Rattle.listings.proofs.house.Statement.{statement}
 use Rattle.listings.proofs.house.Tie as tie
 

@@ -1,7 +1,6 @@
 -- `listings::steady` is safe: at most 18 records are written.
 use Prim.Native.Nat.{_≤_, _-_}
 use borrow.Author.Needs.{needs}
-use native.Mathlib.Omega.{arith}
 use Rattle.listings.proofs.steady.Statement.{statement}
 use Rattle.listings.proofs.steady.Tie as tie
 

@@ -1,5 +1,5 @@
 -- `sheet::listing` meets its contract: behind the header stand the lines of the tasks passed, and the verdict is last.
-use Prim.Native.Nat.{_-_, _≤_, _<_, _+_}
+use Prim.Native.Nat.{_-_, _≤_, _<_}
 use borrow.Author.Needs.{needs}
 use mathlib.Core.Path.{_≡_, refl}
 use native.Mathlib.Numerals.{add-one}

@@ -5,7 +5,6 @@ use borrow.Author.Needs.{needs}
 use borrow.Author.Tests.{lt-ltb, le-ltb, lt-leb, le-leb, eq-eqb, ne-eqb}
 use mathlib.Core.List.{List}
 use mathlib.Core.Path.{_≡_, sym, _∙_}
-use native.Mathlib.Omega.{arith}
 use Rattle.table.specs.Bytes.{recordAt, recordsIn}
 use Rattle.table.specs.Sound.{harmonized, from2, from3, from4, readOf}
 use Rattle.table.specs.declared.Reading.{Reading}

@@ -1,9 +1,6 @@
 use borrow.Author.Needs.{needs}
 use Rattle.table.proofs.tell.Statement.{statement}
 use Rattle.table.proofs.tell.Tie as tie
-use Rattle.table.proofs.tell.Reads as reads
-use Rattle.table.proofs.tell.Lts as lts
-use Rattle.table.proofs.placed.Reads as placed-reads
 
 -- src/lib.rt:55:28
 enum-told : tie.Need-enum-told
