@@ -1,0 +1,39 @@
+-- A test of every number below n holds exactly when it holds of each.
+use Prim.Native.Nat.{ℕ, zero, suc, _+_, _<_}
+use mathlib.Core.Path.{_≡_, refl}
+use mathlib.Core.Bool.{Bool, true, false, _&&_, and-eq-true-iff}
+use native.Mathlib.Omega.{arith}
+use native.Mathlib.Numerals.{add-one}
+use Rattle.theory.specs.Split.{by-eq}
+use Rattle.scheduler.specs.States.{every}
+
+-- one more
+pub every-more : (test : ℕ → Bool) (i : ℕ) → every test i ≡ true → test i ≡ true → every test (i + 1) ≡ true
+unfolding every
+every-more test i e t = rw (add-one, e) t
+
+-- one that fails
+pub every-not : (test : ℕ → Bool) (n i : ℕ) → i < n → test i ≡ false → every test n ≡ false
+unfolding every
+every-not test zero i l e = absurd (let z : ⊥ = omega arith in z)
+every-not test (suc n) i l e = by-eq i n (every test n && test n ≡ false)
+    (λ q. rw (← q, e) (no (every test i)))
+    (λ d. rw (every-not test n i (omega arith) e))
+  where
+    no : (b : Bool) → b && false ≡ false
+    no true = refl
+    no false = refl
+
+-- what it says of each
+pub every-says : (test : ℕ → Bool) (n i : ℕ) → every test n ≡ true → i < n → test i ≡ true
+unfolding every
+every-says test zero i e l = absurd (let z : ⊥ = omega arith in z)
+every-says test (suc n) i e l =
+    let b = and-eq-true-iff (every test n) (test n) .0 e in
+    by-eq i n (test i ≡ true) (λ q. rw q (b .1)) (λ d. every-says test n i (b .0) (omega arith))
+
+-- and when it holds
+pub says-every : (test : ℕ → Bool) (n : ℕ) → ((i : ℕ) → i < n → test i ≡ true) → every test n ≡ true
+unfolding every
+says-every test zero h = refl
+says-every test (suc n) h = rw (says-every test n (λ i l. h i (omega arith)), h n (omega arith))

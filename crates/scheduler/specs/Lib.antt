@@ -1,0 +1,12 @@
+-- the rules of a state and of a tally
+pub mod States
+-- the same rules as facts
+pub mod Lawful
+-- start
+pub mod Starts
+-- release
+pub mod Releases
+-- one tick
+pub mod Steps
+-- the energy of a tally
+pub mod Energies
