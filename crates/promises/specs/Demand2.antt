@@ -1,14 +1,19 @@
--- Demand 2, first half, in the user's words: "A sound set is admitted exactly when every task has a window, within its
--- limit, that holds its demand; the figures and counts reported are the defined ones." Each theorem speaks of
--- `admitOf`, which the contract of `admission::admit` gives as its whole result, for every table of bytes.
-use Prim.Native.Nat.{ℕ, _+_, _<_}
+-- Demand 2, in the user's words: "Each tick runs, sleeps or waits exactly as Energy-Saving Rate-Harmonized Scheduling
+-- says, in whole ticks as document 01 states it. A sound set is admitted exactly when every task has a window, within its
+-- limit, that holds its demand; the figures and counts reported are the defined ones." The theorems speak of `admitOf`
+-- and `stepOf`, which the contracts of `admission::admit` and `scheduler::step` give as their whole results.
+use Prim.Native.Nat.{ℕ, _+_, _≤_, _<_}
 use mathlib.Core.Path.{_≡_}
 use mathlib.Core.Logic.{_↔_}
 use mathlib.Core.List.{List}
+use mathlib.Core.Bool.{true}
+use borrow.Author.Tests.{leb-true, le-leb, lt-leb, eq-eqb}
+use Rattle.theory.specs.Sum.{sumTo}
+use Rattle.theory.specs.System.{ready}
 use Rattle.table.specs.declared.Refusal.{Refusal}
 use Rattle.table.specs.declared.Refusal.the-variants.{NoWindow}
 use Rattle.table.specs.declared.Reading.the-variants as read
-use Rattle.table.specs.Sound.{readOf}
+use Rattle.table.specs.Sound.{places, readOf}
 use Rattle.table.specs.Rules.{Sound-table}
 use Rattle.table.specs.Set.{rulesOf}
 use Rattle.table.proofs.SoundLaws.{read-sound, sound-read}
@@ -16,6 +21,17 @@ use Rattle.admission.specs.declared.Answer.the-variants.{Admitted, Refused}
 use Rattle.admission.specs.Says.{Has-window, Judged}
 use Rattle.admission.specs.Verdicts.{verdict, zeros, admitOf}
 use Rattle.admission.proofs.AdmitLaws as laws
+use Rattle.scheduler.specs.declared.Job.the-variants.{Working}
+use Rattle.scheduler.specs.declared.State.{State}
+use Rattle.scheduler.specs.declared.Tally.{Tally}
+use Rattle.scheduler.specs.States.{clockEnd, stateFits, tallyFits}
+use Rattle.scheduler.specs.Lawful.{Lawful-state}
+use Rattle.scheduler.specs.Starts.{freshState}
+use Rattle.scheduler.specs.Steps.{mayRun, tickOf, made, stepOf}
+use Rattle.scheduler.specs.History.{Call, after, begun, leftIn}
+use Rattle.scheduler.proofs.StateLaws.{says-fits}
+use Rattle.scheduler.proofs.HistoryLaws.{history-kept, accounts}
+use Rattle.scheduler.proofs.HistoryLaws as laws-of-history
 
 -- a table reads as sound exactly when document 01's rules hold of it
 pub sound-exactly : (bytes : List ℕ) (n : ℕ) → (readOf bytes ≡ read.Sound n) ↔ Sound-table bytes n
@@ -41,3 +57,40 @@ figures-are-the-defined-ones = laws.admit-says
 pub unsound-refused : (bytes : List ℕ) (refusal : Refusal) → readOf bytes ≡ read.Refused refusal
     → admitOf bytes ≡ verdict (Refused refusal) zeros zeros zeros
 unsound-refused bytes refusal e = rw e
+
+-- EACH TICK, on a state that keeps its rules with a tally that sums to the clock, before the clock's end: a slot tick
+-- where t mod H is below S; otherwise a run of the lowest-numbered working task whose job may run; otherwise a tail tick.
+-- The state behind it and the tally are those of document 01 (`behind`, `raised`).
+pub each-tick : (s : State) (t : Tally) → Lawful-state s → t .run + t .slot + t .tail ≡ s .clock → s .clock < clockEnd
+    → stepOf s t ≡ made s t (tickOf s)
+unfolding stepOf
+each-tick s t L c l = rw (says-fits s L, eq-eqb _ _ c, lt-leb _ _ l)
+
+-- a job may run at a tick exactly when the smallest multiple of H that is at least its release is not behind the tick
+pub may-run-from : (h clock a l : ℕ) → (mayRun h clock (Working a l) ≡ true) ↔ (ready h a ≤ clock)
+may-run-from h clock a l = (leb-true (ready h a) clock, le-leb (ready h a) clock)
+
+-- THE COUNTS, over every list of calls from a fresh start of a sound table, a tally of zeros lent first and the same one
+-- to each step: run, slot and tail ticks sum to the clock
+pub ticks-sum-to-the-clock : (table : List ℕ) (n : ℕ) (calls : List Call) → readOf table ≡ read.Sound n
+    → after (begun (freshState table n)) calls .tally .run + after (begun (freshState table n)) calls .tally .slot
+    + after (begun (freshState table n)) calls .tally .tail ≡ after (begun (freshState table n)) calls .state .clock
+ticks-sum-to-the-clock table n calls e = history-kept table n calls e .counted
+
+-- run ticks plus all work left equals the sum of the accepted demands
+pub run-and-left-are-demanded : (table : List ℕ) (n : ℕ) (calls : List Call) → readOf table ≡ read.Sound n
+    → after (begun (freshState table n)) calls .tally .run + sumTo places (leftIn (after (begun (freshState table n)) calls .state))
+    ≡ sumTo places (after (begun (freshState table n)) calls .demands)
+run-and-left-are-demanded table n calls e = accounts (after (begun (freshState table n)) calls) (history-kept table n calls e)
+
+-- and so for each task by itself
+pub task-by-task : (table : List ℕ) (n : ℕ) (calls : List Call) (i : ℕ) → readOf table ≡ read.Sound n → i < places
+    → after (begun (freshState table n)) calls .runs i + leftIn (after (begun (freshState table n)) calls .state) i
+    ≡ after (begun (freshState table n)) calls .demands i
+task-by-task table n calls i e l = history-kept table n calls e .each i l
+
+-- no state that such calls reach is refused with 6, nor is its tally
+pub never-6 : (table : List ℕ) (n : ℕ) (calls : List Call) → readOf table ≡ read.Sound n
+    → (stateFits (after (begun (freshState table n)) calls .state) ≡ true)
+    × (tallyFits (after (begun (freshState table n)) calls .tally) (after (begun (freshState table n)) calls .state .clock) ≡ true)
+never-6 table n calls e = laws-of-history.never-6 (after (begun (freshState table n)) calls) (history-kept table n calls e)

@@ -1,4 +1,8 @@
 -- document 01's cases A to I
 pub mod Cases
--- demand 2: who is admitted, and with which figures
+-- demand 1: what a refusal is
+pub mod Demand1
+-- demand 2: each tick, who is admitted, and the figures and counts
 pub mod Demand2
+-- any two results that a promise allows are equal
+pub mod Settled

@@ -6,3 +6,9 @@ pub mod StateLaws
 pub mod ReadyLaws
 -- what a release that is accepted says
 pub mod ReleaseLaws
+-- what the calls do to each place of a state, and that they keep its rules
+pub mod CallLaws
+-- what every history keeps
+pub mod HistoryLaws
+-- the numbers that each call can give
+pub mod NumberLaws

@@ -10,3 +10,5 @@ pub mod Releases
 pub mod Steps
 -- the energy of a tally
 pub mod Energies
+-- lists of calls and what they make of a start
+pub mod History

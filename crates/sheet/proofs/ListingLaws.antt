@@ -40,7 +40,7 @@ rows-few bytes = go (readOf bytes) refl
         by-verdict (admitted a A) = rw a few
         by-verdict (refused f k l a P A) = let p : f + 1 - 1 ≤ places = omega (arith, few) in rw a p
     go (read.Refused refusal) e =
-        let low : toldOf refusal .number ≤ 4 = read-numbers bytes refusal e in
+        let low : toldOf refusal .number ≤ 4 = read-numbers bytes refusal e .1 in
         rw (e, ne-eqb (toldOf refusal .number) 5 (λ q. omega arith)) (omega arith)
 
 -- no number has more than ten digits

@@ -132,7 +132,7 @@ either P false x y p q = q
 -- a reading gives refusals 1 to 4 and no other
 abbrev Below-5 : Reading → Type 0
 Below-5 (Sound n) = Unit {0}
-Below-5 (Refused refusal) = toldOf refusal .number ≤ 4
+Below-5 (Refused refusal) = (1 ≤ toldOf refusal .number) × (toldOf refusal .number ≤ 4)
 
 below-5 : (bytes : List ℕ) → Below-5 (readOf bytes)
 unfolding readOf from2 from3 from4
@@ -149,5 +149,5 @@ below-5 bytes =
     count : ℕ
     count = recordsIn bytes
 
-pub read-numbers : (bytes : List ℕ) (refusal : Refusal) → readOf bytes ≡ Refused refusal → toldOf refusal .number ≤ 4
+pub read-numbers : (bytes : List ℕ) (refusal : Refusal) → readOf bytes ≡ Refused refusal → (1 ≤ toldOf refusal .number) × (toldOf refusal .number ≤ 4)
 read-numbers bytes refusal e = rw e at (below-5 bytes)

@@ -1,0 +1,81 @@
+-- Document 01, "How much each promise must say" (a): any two results that a promise allows are equal. The contract of
+-- every public function gives its whole result by one definition, so the one law serves them all.
+use Prim.Native.Nat.{ℕ}
+use mathlib.Core.Path.{_≡_, sym, _∙_}
+use mathlib.Core.List.{List}
+use mathlib.Core.Bool.{Bool}
+use Rattle.table.specs.declared.Record.{Record}
+use Rattle.table.specs.declared.Refusal.{Refusal}
+use Rattle.table.specs.declared.Told.{Told}
+use Rattle.table.specs.declared.Reading.{Reading}
+use Rattle.table.specs.Refusals.{toldOf}
+use Rattle.table.specs.Bytes.{wordAt, recordAt}
+use Rattle.table.specs.Sound.{lawful, harmonized, readOf}
+use Rattle.admission.specs.declared.Verdict.{Verdict}
+use Rattle.admission.specs.Verdicts.{admitOf}
+use Rattle.scheduler.specs.declared.State.{State}
+use Rattle.scheduler.specs.declared.Tally.{Tally}
+use Rattle.scheduler.specs.declared.Started.{Started}
+use Rattle.scheduler.specs.declared.Released.{Released}
+use Rattle.scheduler.specs.declared.Stepped.{Stepped}
+use Rattle.scheduler.specs.declared.Moved.{Moved}
+use Rattle.scheduler.specs.declared.EnergyReading.{EnergyReading}
+use Rattle.scheduler.specs.Starts.{startOf}
+use Rattle.scheduler.specs.Releases.{releaseOf}
+use Rattle.scheduler.specs.Steps.{stepOf}
+use Rattle.scheduler.specs.Energies.{energyOf}
+use Rattle.sheet.specs.declared.Page.{Page}
+use Rattle.sheet.specs.Pages.{blank, shown}
+use Rattle.sheet.specs.Listing.{listingOf}
+
+-- THE LAW
+pub settled : {A : Type 0} (promised x y : A) → x ≡ promised → y ≡ promised → x ≡ y
+settled promised x y p q = p ∙ sym q
+
+-- a result is settled where the promise is that it is this
+abbrev Settles : {A : Type 0} → A → Type 0
+Settles {A} promised = (x y : A) → x ≡ promised → y ≡ promised → x ≡ y
+
+-- The public functions, crate by crate: table
+read : (table : List ℕ) → Settles {A = Reading} (readOf table)
+read table = settled (readOf table)
+
+record-at : (table : List ℕ) (k : ℕ) → Settles {A = Record} (recordAt table k)
+record-at table k = settled (recordAt table k)
+
+word-at : (bytes : List ℕ) (at : ℕ) → Settles {A = ℕ} (wordAt bytes at)
+word-at bytes at = settled (wordAt bytes at)
+
+keeps : (r : Record) → Settles {A = Bool} (lawful r)
+keeps r = settled (lawful r)
+
+harmonious : (sleep first : Record) → Settles {A = Bool} (harmonized sleep first)
+harmonious sleep first = settled (harmonized sleep first)
+
+tell : (refusal : Refusal) → Settles {A = Told} (toldOf refusal)
+tell refusal = settled (toldOf refusal)
+
+-- admission
+admit : (table : List ℕ) → Settles {A = Verdict} (admitOf table)
+admit table = settled (admitOf table)
+
+-- scheduler: the answer and the state handed back stand in one result; of `step`, which is lent the tally, the tally at
+-- exit is settled beside it
+start : (table : List ℕ) → Settles {A = Started} (startOf table)
+start table = settled (startOf table)
+
+release : (s : State) (task demand : ℕ) → Settles {A = Released} (releaseOf s task demand)
+release s task demand = settled (releaseOf s task demand)
+
+step-on : (s : State) (t : Tally) → Settles {A = Moved} (stepOf s t)
+step-on s t = settled (stepOf s t)
+
+step : (s : State) (t : Tally) → Settles {A = Stepped} (record { answer = stepOf s t .answer; state = stepOf s t .state }) × Settles {A = Tally} (stepOf s t .tally)
+step s t = (settled (record { answer = stepOf s t .answer; state = stepOf s t .state }), settled (stepOf s t .tally))
+
+energy : (t : Tally) (run sleep : ℕ) → Settles {A = EnergyReading} (energyOf t run sleep)
+energy t run sleep = settled (energyOf t run sleep)
+
+-- sheet
+listing : (table : List ℕ) → Settles {A = Page} (shown blank (listingOf table))
+listing table = settled (shown blank (listingOf table))

@@ -1,0 +1,80 @@
+-- Histories: lists of calls on a node, refused ones among them, and what they make of a start. The same tally is lent to
+-- each step, a tally of zeros first.
+use Prim.Native.Nat.{ℕ, _+_, _-_}
+use mathlib.Core.List.{List, [], _∷_}
+use mathlib.Core.Bool.{cond}
+use lib.Dec.{eqb}
+use Rattle.scheduler.specs.declared.Job.{Job}
+use Rattle.scheduler.specs.declared.Job.the-variants.{Resting, Working}
+use Rattle.scheduler.specs.declared.State.{State}
+use Rattle.scheduler.specs.declared.Tally.{Tally}
+use Rattle.scheduler.specs.declared.Tick.{Tick}
+use Rattle.scheduler.specs.declared.Tick.the-variants.{Run, Slot, Tail}
+use Rattle.scheduler.specs.declared.Ticked.{Ticked}
+use Rattle.scheduler.specs.declared.Ticked.the-variants as ticked
+use Rattle.scheduler.specs.declared.Answer.{Answer}
+use Rattle.scheduler.specs.declared.Answer.the-variants.{Accepted, Refused}
+use Rattle.scheduler.specs.States.{entryIn}
+use Rattle.scheduler.specs.Releases.{releaseOf}
+use Rattle.scheduler.specs.Steps.{stepOf}
+
+-- a release with any task number and any demand, or a step
+pub data Call : Type 0 where
+  release : ℕ → ℕ → Call
+  step : Call
+
+-- what calls have made: the state and the tally and, by place, the sum of the accepted demands and the ticks run
+pub record Past : Type 0 where
+  pub state : State
+  pub tally : Tally
+  pub demands : ℕ → ℕ
+  pub runs : ℕ → ℕ
+
+-- f, with x more at place j
+unfoldable pub plusAt : ℕ → ℕ → (ℕ → ℕ) → ℕ → ℕ
+plusAt j x f k = cond (eqb k j) (f k + x) (f k)
+
+-- an accepted demand counts
+abbrev pub demanded : ℕ → ℕ → (ℕ → ℕ) → Answer → ℕ → ℕ
+demanded task demand f Accepted = plusAt (task - 1) demand f
+demanded task demand f (Refused r) = f
+
+-- so does a tick run
+abbrev pub ran : (ℕ → ℕ) → Ticked → ℕ → ℕ
+ran f (ticked.Tick (Run k)) = plusAt (k - 1) 1 f
+ran f (ticked.Tick Slot) = f
+ran f (ticked.Tick Tail) = f
+ran f (ticked.Refused r) = f
+
+-- one call more
+unfoldable pub next : Past → Call → Past
+next p (release task demand) = record {
+  state = releaseOf (p .state) task demand .state;
+  tally = p .tally;
+  demands = demanded task demand (p .demands) (releaseOf (p .state) task demand .answer);
+  runs = p .runs;
+}
+next p step = record {
+  state = stepOf (p .state) (p .tally) .state;
+  tally = stepOf (p .state) (p .tally) .tally;
+  demands = p .demands;
+  runs = ran (p .runs) (stepOf (p .state) (p .tally) .answer);
+}
+
+-- a list of calls
+unfoldable pub after : Past → List Call → Past
+after p [] = p
+after p (call ∷ calls) = after (next p call) calls
+
+-- a state before any call, a tally of zeros beside it
+abbrev pub begun : State → Past
+begun s = record { state = s; tally = record { run = 0; slot = 0; tail = 0 }; demands = λ i. 0; runs = λ i. 0 }
+
+-- the work left of a job
+abbrev pub workLeft : Job → ℕ
+workLeft Resting = 0
+workLeft (Working a l) = l
+
+-- the work left at a place
+abbrev pub leftIn : State → ℕ → ℕ
+leftIn s i = workLeft (entryIn s i .job)
