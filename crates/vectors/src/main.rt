@@ -1,0 +1,571 @@
+// The schedule run and compared: document 01's case J tick by tick, F's run, every refusal 6 to 13
+// at small inputs with what came back, and a state for every rule under "State".
+use scheduler::Answer;
+use scheduler::Entry;
+use scheduler::Job;
+use scheduler::Last;
+use scheduler::State;
+use scheduler::Tally;
+use scheduler::Tick;
+use scheduler::Ticked;
+use scheduler::energy;
+use scheduler::release;
+use scheduler::start;
+use scheduler::step_on;
+use table::Record;
+use table::tell;
+
+// The house table and the source's Figure 3 set, as in tables/.
+const HOUSE: [u8; 80] = [10, 0, 0, 0, 8, 0, 0, 0, 20, 0, 0, 0, 0, 0, 0, 0, 11, 0, 0, 0, 2, 0, 0, 0, 20, 0, 0, 0, 0, 0, 0, 0, 12, 0, 0, 0, 3, 0, 0, 0, 50, 0, 0, 0, 0, 0, 0, 0, 13, 0, 0, 0, 2, 0, 0, 0, 100, 0, 0, 0, 0, 0, 0, 0, 14, 0, 0, 0, 4, 0, 0, 0, 200, 0, 0, 0, 0, 0, 0, 0];
+const FIGURE_3: [u8; 64] = [0, 0, 0, 0, 7, 0, 0, 0, 10, 0, 0, 0, 0, 0, 0, 0, 1, 0, 0, 0, 1, 0, 0, 0, 10, 0, 0, 0, 0, 0, 0, 0, 2, 0, 0, 0, 1, 0, 0, 0, 15, 0, 0, 0, 0, 0, 0, 0, 3, 0, 0, 0, 2, 0, 0, 0, 26, 0, 0, 0, 0, 0, 0, 0];
+
+fn main() {
+    starts();
+    case_j();
+    figure_3();
+    releases();
+    ends();
+    tables();
+    entries();
+    spares();
+    tallies();
+    energies();
+}
+
+// An accepted start and a refused one, and what a refused one's state gets.
+fn starts() {
+    say(b"starts\n");
+    let house = start(&HOUSE);
+    let none = start(&HOUSE[..79]);
+    answered(house.answer);
+    shown(house.state);
+    answered(none.answer);
+    shown(none.state);
+    tried(b"a refused start's state", none.state);
+}
+
+// Case J: the worst pattern on the house table for 40 ticks, its tally and its energy.
+fn case_j() {
+    say(b"J\n");
+    let begun = start(&HOUSE);
+    let mut state = begun.state;
+    let mut tally = zeros();
+    let mut t: u32 = 0;
+    while t < 40 {
+        state = given(state, t, 20, 1);
+        let moved = step_on(state, tally);
+        let answer = moved.answer;
+        number(t);
+        ticked(answer);
+        let after = moved.state;
+        let counts = moved.tally;
+        state = after;
+        tally = counts;
+        t += 1;
+    }
+    counted(tally);
+    consumed(tally, 23000, 16);
+}
+
+// F's set, every task released from tick 0 at its period: what is refused and what finishes.
+fn figure_3() {
+    say(b"F\n");
+    let begun = start(&FIGURE_3);
+    let mut state = begun.state;
+    let mut tally = zeros();
+    let mut t: u32 = 0;
+    while t < 90 {
+        state = given(state, t, 0, 0);
+        let moved = step_on(state, tally);
+        let answer = moved.answer;
+        let after = moved.state;
+        let counts = moved.tally;
+        finished(state, after, answer);
+        state = after;
+        tally = counts;
+        t += 1;
+    }
+    counted(tally);
+}
+
+// Refusals 8 to 12, and what is accepted beside them; the lowest number where several apply.
+fn releases() {
+    say(b"releases at 30: task 1 rests, 2 to 4 work\n");
+    let s = house_at(30);
+    asked(s, 0, 1);
+    asked(s, 5, 1);
+    asked(s, 4294967295, 1);
+    asked(s, 0, 0);
+    asked(s, 2, 0);
+    asked(s, 2, 4);
+    asked(s, 2, 4294967295);
+    asked(s, 1, 3);
+    asked(s, 1, 1);
+    asked(s, 2, 1);
+    asked(s, 4, 4);
+    say(b"releases at 40: all rest\n");
+    let s = house_at(40);
+    asked(s, 1, 2);
+    asked(s, 2, 3);
+    asked(s, 1, 0);
+    say(b"releases at 50 and 51: task 2 came at 1, its period is 50\n");
+    asked(clocked(s, 50), 2, 3);
+    asked(clocked(s, 51), 2, 3);
+    asked(clocked(s, 51), 1, 2);
+    asked(clocked(s, 51), 4, 4);
+}
+
+// The last clock.
+fn ends() {
+    say(b"the clock's end\n");
+    let begun = start(&HOUSE);
+    let last = clocked(begun.state, 999999999);
+    let over = clocked(begun.state, 1000000000);
+    let behind = clocked(begun.state, 1000000001);
+    stepped(last, 0, 0, 999999999);
+    stepped(over, 0, 0, 1000000000);
+    stepped(over, 0, 0, 999999999);
+    stepped(behind, 0, 0, 1000000001);
+    asked(last, 2, 3);
+    asked(over, 2, 3);
+    asked(over, 0, 0);
+    asked(behind, 2, 3);
+}
+
+// States that break the table rules.
+fn tables() {
+    let s = house_at(30);
+    let z = s.sleep;
+    tried(b"as it is", s);
+    tried(b"n = 0", sized(s, 0));
+    tried(b"n = 3, a task in a spare place", sized(s, 3));
+    tried(b"n = 5, a spare place for a task", sized(s, 5));
+    tried(b"n = 17", sized(s, 17));
+    tried(b"S = 0", slept(s, record(z.label, 0, 20, 0)));
+    tried(b"S = 0, H = 0", slept(s, record(z.label, 0, 0, 0)));
+    tried(b"S above H", slept(s, record(z.label, 21, 20, 0)));
+    tried(b"S = H", slept(s, record(z.label, 20, 20, 0)));
+    tried(b"H = 60,001", slept(s, record(z.label, 8, 60001, 0)));
+    tried(b"sleep reserved 1", slept(s, record(z.label, 8, 20, 1)));
+    tried(b"another label in the sleep record", slept(s, record(99, 8, 20, 0)));
+    tried(b"H = 7: period 1 no multiple", slept(s, record(z.label, 2, 7, 0)));
+    tried(b"C = 0 in task 4", tasked(s, 3, record(14, 0, 200, 0)));
+    tried(b"C above T in task 4", tasked(s, 3, record(14, 201, 200, 0)));
+    tried(b"T = 60,001 in task 4", tasked(s, 3, record(14, 4, 60001, 0)));
+    tried(b"reserved 1 in task 4", tasked(s, 3, record(14, 4, 200, 1)));
+    tried(b"period of task 4 below task 3's", tasked(s, 3, record(14, 4, 99, 0)));
+    tried(b"period of task 4 equal to task 3's", tasked(s, 3, record(14, 4, 100, 0)));
+}
+
+// States that break the rules of jobs and last releases.
+fn entries() {
+    let s = house_at(30);
+    tried(b"task 1 last released after the clock", lasted(s, 0, Last::At(40)));
+    tried(b"task 1 last released off a boundary", lasted(s, 0, Last::At(21)));
+    tried(b"task 1 last released at 0", lasted(s, 0, Last::At(0)));
+    tried(b"task 2 at work since after the clock", worked(s, 1, 31, 1, Last::At(31)));
+    tried(b"task 2 at work since now", worked(s, 1, 30, 1, Last::At(30)));
+    tried(b"task 2 with nothing left", worked(s, 1, 1, 0, Last::At(1)));
+    tried(b"task 2 with C left", worked(s, 1, 1, 3, Last::At(1)));
+    tried(b"task 2 with C + 1 left", worked(s, 1, 1, 4, Last::At(1)));
+    tried(b"task 2 released at 1, last release 2", worked(s, 1, 1, 2, Last::At(2)));
+    tried(b"task 2 at work and never released", worked(s, 1, 1, 2, Last::Never));
+    tried(b"task 4 rests, last released after the clock", lasted(s, 3, Last::At(31)));
+    tried(b"task 4 rests and was never released", lasted(s, 3, Last::Never));
+}
+
+// Spare places that are not zero, at rest and never released.
+fn spares() {
+    let s = house_at(30);
+    let nothing = record(0, 0, 0, 0);
+    tried(b"a spare place with a label", tasked(s, 15, record(1, 0, 0, 0)));
+    tried(b"a spare place with work", tasked(s, 4, record(0, 1, 0, 0)));
+    tried(b"a spare place with a period", tasked(s, 4, record(0, 0, 1, 0)));
+    tried(b"a spare place with a reserved field", tasked(s, 4, record(0, 0, 0, 1)));
+    tried(b"a spare place released at 0", lasted(s, 4, Last::At(0)));
+    tried(b"a spare place at work", worked(s, 15, 0, 1, Last::At(0)));
+    tried(b"spare places as they should be", tasked(s, 15, nothing));
+}
+
+// Tallies that do not sum to the clock.
+fn tallies() {
+    say(b"tallies at 30\n");
+    let s = house_at(30);
+    stepped(s, 2, 16, 12);
+    stepped(s, 3, 16, 12);
+    stepped(s, 2, 16, 11);
+    stepped(s, 4294967295, 31, 0);
+    stepped(s, 4294967295, 4294967295, 4294967295);
+}
+
+// Refusals 6 and 13 of an energy reading.
+fn energies() {
+    say(b"energies\n");
+    consumed(tally_of(11, 16, 13), 23000, 16);
+    consumed(tally_of(11, 16, 13), 1000000, 1000000);
+    consumed(tally_of(11, 16, 13), 1000001, 16);
+    consumed(tally_of(11, 16, 13), 23000, 1000001);
+    consumed(tally_of(1000000000, 0, 0), 1000000, 1000000);
+    consumed(tally_of(1000000000, 0, 1), 1, 1);
+    consumed(tally_of(1000000000, 0, 1), 1000001, 1);
+    consumed(tally_of(4294967295, 1, 0), 1, 1);
+    consumed(tally_of(4294967295, 4294967295, 4294967295), 1, 1);
+    consumed(zeros(), 1000000, 1000000);
+}
+
+// The house table under the worst pattern, before the step at clock t.
+fn house_at(t: u32) -> State {
+    let begun = start(&HOUSE);
+    let mut state = begun.state;
+    let mut tally = zeros();
+    let mut k: u32 = 0;
+    while k < t {
+        state = given(state, k, 20, 1);
+        let moved = step_on(state, tally);
+        let after = moved.state;
+        let counts = moved.tally;
+        state = after;
+        tally = counts;
+        k += 1;
+    }
+    given(state, t, 20, 1)
+}
+
+// The state with every task released that is due at t, in table order and with full demand: task 1
+// at `first` and every period after, the others at `others`. What is refused is written.
+fn given(s: State, t: u32, first: u32, others: u32) -> State {
+    let mut state = s;
+    let mut i: u32 = 0;
+    while i < 16 {
+        if i < state.n {
+            let e = state.entries[i as usize];
+            let task = e.task;
+            let offset = if i == 0 { first } else { others };
+            if due(t, offset, task.period) {
+                let r = release(state, i + 1, task.work);
+                let after = r.state;
+                let answer = r.answer;
+                refused_at(t, i, answer);
+                state = after;
+            }
+        }
+        i += 1;
+    }
+    state
+}
+
+fn due(t: u32, offset: u32, period: u32) -> bool {
+    if period == 0 {
+        return false;
+    }
+    if t < offset {
+        return false;
+    }
+    (t - offset) % period == 0
+}
+
+fn refused_at(t: u32, i: u32, answer: Answer) {
+    match answer {
+        Answer::Accepted => {}
+        Answer::Refused(_) => {
+            say(b"at ");
+            number(t);
+            say(b"task ");
+            number(i % 16 + 1);
+            answered(answer);
+        }
+    }
+}
+
+// A step and two releases on a state: the numbers given, and whether anything changed.
+fn tried(name: &[u8], s: State) {
+    say(name);
+    say(b": ");
+    let moved = step_on(s, tally_of(2, 16, 12));
+    let answer = moved.answer;
+    told(answer);
+    let after = moved.state;
+    differs(s, after);
+    asked(s, 2, 1);
+}
+
+// A release: the number given, and whether anything changed.
+fn asked(s: State, task: u32, demand: u32) {
+    say(b"release ");
+    number(task);
+    number(demand);
+    let r = release(s, task, demand);
+    let answer = r.answer;
+    let after = r.state;
+    differs(s, after);
+    answered(answer);
+}
+
+// A step with a tally: the answer, whether the state changed, and the tally behind it.
+fn stepped(s: State, run: u32, slot: u32, tail: u32) {
+    say(b"step ");
+    let moved = step_on(s, tally_of(run, slot, tail));
+    let answer = moved.answer;
+    let after = moved.state;
+    let counts = moved.tally;
+    differs(s, after);
+    ticked(answer);
+    counted(counts);
+}
+
+// A task that the tick left without work finished its job.
+fn finished(before: State, after: State, answer: Ticked) {
+    match answer {
+        Ticked::Refused(_) => {}
+        Ticked::Tick(tick) => match tick {
+            Tick::Slot => {}
+            Tick::Tail => {}
+            Tick::Run(k) => finish(before, after, k),
+        },
+    }
+}
+
+fn finish(before: State, after: State, k: u32) {
+    if k < 1 {
+        return;
+    }
+    if 16 < k {
+        return;
+    }
+    let at = (k - 1) as usize;
+    let e = before.entries[at];
+    let f = after.entries[at];
+    let job = e.job;
+    let rest = f.job;
+    match rest {
+        Job::Working {
+            release: _,
+            left: _,
+        } => {}
+        Job::Resting => match job {
+            Job::Resting => {}
+            Job::Working { release, left: _ } => {
+                say(b"task ");
+                number(k);
+                say(b"released at ");
+                number(release);
+                say(b"finishes at ");
+                line(after.clock);
+            }
+        },
+    }
+}
+
+fn consumed(tally: Tally, run: u32, sleep: u32) {
+    let e = energy(tally, run, sleep);
+    let answer = e.answer;
+    say(b"energy ");
+    io::print_decimal(1, e.nanojoules);
+    say(b" ");
+    answered(answer);
+}
+
+fn counted(tally: Tally) {
+    say(b"tally ");
+    number(tally.run);
+    number(tally.slot);
+    line(tally.tail);
+}
+
+// What a tick was, or the refusal.
+fn ticked(answer: Ticked) {
+    told(answer);
+    say(b"\n");
+}
+
+fn told(answer: Ticked) {
+    match answer {
+        Ticked::Refused(refusal) => {
+            let t = tell(refusal);
+            say(b"refused ");
+            number(t.number);
+        }
+        Ticked::Tick(tick) => match tick {
+            Tick::Slot => say(b"slot "),
+            Tick::Tail => say(b"tail "),
+            Tick::Run(k) => {
+                say(b"run ");
+                number(k);
+            }
+        },
+    }
+}
+
+fn answered(answer: Answer) {
+    match answer {
+        Answer::Accepted => say(b"accepted\n"),
+        Answer::Refused(refusal) => {
+            let t = tell(refusal);
+            say(b"refused ");
+            number(t.number);
+            line(t.place);
+        }
+    }
+}
+
+// Whether two states differ in anything.
+fn differs(a: State, b: State) {
+    if sum(a) == sum(b) {
+        say(b"state unchanged ");
+    } else {
+        say(b"state changed ");
+    }
+}
+
+fn shown(s: State) {
+    say(b"n ");
+    number(s.n);
+    say(b"clock ");
+    number(s.clock);
+    say(b"sum ");
+    io::print_decimal(1, sum(s));
+    say(b"\n");
+}
+
+// A sum over every field of a state, each at a weight of its own.
+fn sum(s: State) -> u64 {
+    let z = s.sleep;
+    let mut x = mixed(mixed(17, s.n), s.clock);
+    x = recorded(x, z);
+    let entries = s.entries;
+    let mut i: usize = 0;
+    while i < 16 {
+        let e = entries[i];
+        x = entered(x, e);
+        i += 1;
+    }
+    x
+}
+
+fn entered(x: u64, e: Entry) -> u64 {
+    let task = e.task;
+    let job = e.job;
+    let last = e.last;
+    let y = recorded(x, task);
+    let y = match job {
+        Job::Resting => mixed(y, 0),
+        Job::Working { release, left } => mixed(mixed(mixed(y, 1), release), left),
+    };
+    match last {
+        Last::Never => mixed(y, 0),
+        Last::At(a) => mixed(mixed(y, 1), a),
+    }
+}
+
+fn recorded(x: u64, r: Record) -> u64 {
+    mixed(mixed(mixed(mixed(x, r.label), r.work), r.period), r.reserved)
+}
+
+fn mixed(x: u64, y: u32) -> u64 {
+    (x % 1000000007 * 65537 + y as u64 + 1) % 1000000007
+}
+
+fn clocked(s: State, clock: u32) -> State {
+    let mut next = s;
+    next.clock = clock;
+    next
+}
+
+fn sized(s: State, n: u32) -> State {
+    let mut next = s;
+    next.n = n;
+    next
+}
+
+fn slept(s: State, sleep: Record) -> State {
+    let mut next = s;
+    next.sleep = sleep;
+    next
+}
+
+// The state with another record at place i, the job and the last release as they are.
+fn tasked(s: State, i: usize, task: Record) -> State {
+    if 15 < i {
+        return s;
+    }
+    let e = s.entries[i];
+    let job = e.job;
+    let last = e.last;
+    let mut next = s;
+    next.entries[i] = Entry {
+        task: task,
+        job: job,
+        last: last,
+    };
+    next
+}
+
+// The state with the task at place i at rest, its last release as given.
+fn lasted(s: State, i: usize, last: Last) -> State {
+    if 15 < i {
+        return s;
+    }
+    let e = s.entries[i];
+    let task = e.task;
+    let mut next = s;
+    next.entries[i] = Entry {
+        task: task,
+        job: Job::Resting,
+        last: last,
+    };
+    next
+}
+
+// The state with the task at place i at work.
+fn worked(s: State, i: usize, release: u32, left: u32, last: Last) -> State {
+    if 15 < i {
+        return s;
+    }
+    let e = s.entries[i];
+    let task = e.task;
+    let mut next = s;
+    next.entries[i] = Entry {
+        task: task,
+        job: Job::Working {
+            release: release,
+            left: left,
+        },
+        last: last,
+    };
+    next
+}
+
+fn record(label: u32, work: u32, period: u32, reserved: u32) -> Record {
+    Record {
+        label: label,
+        work: work,
+        period: period,
+        reserved: reserved,
+    }
+}
+
+fn tally_of(run: u32, slot: u32, tail: u32) -> Tally {
+    Tally {
+        run: run,
+        slot: slot,
+        tail: tail,
+    }
+}
+
+fn zeros() -> Tally {
+    tally_of(0, 0, 0)
+}
+
+fn number(n: u32) {
+    io::print_decimal(1, n as u64);
+    say(b" ");
+}
+
+fn line(n: u32) {
+    io::print_decimal(1, n as u64);
+    say(b"\n");
+}
+
+fn say(text: &[u8]) {
+    io::write_all(1, text);
+}
