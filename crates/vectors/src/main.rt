@@ -37,11 +37,15 @@ fn starts() {
     say(b"starts\n");
     let house = start(&HOUSE);
     let none = start(&HOUSE[..79]);
-    answered(house.answer);
-    shown(house.state);
-    answered(none.answer);
-    shown(none.state);
-    tried(b"a refused start's state", none.state);
+    let answer = house.answer;
+    let state = house.state;
+    answered(answer);
+    shown(state);
+    let answer = none.answer;
+    let state = none.state;
+    answered(answer);
+    shown(state);
+    tried(b"a refused start's state", state);
 }
 
 // Case J: the worst pattern on the house table for 40 ticks, its tally and its energy.
@@ -119,9 +123,10 @@ fn releases() {
 fn ends() {
     say(b"the clock's end\n");
     let begun = start(&HOUSE);
-    let last = clocked(begun.state, 999999999);
-    let over = clocked(begun.state, 1000000000);
-    let behind = clocked(begun.state, 1000000001);
+    let s = begun.state;
+    let last = clocked(s, 999999999);
+    let over = clocked(s, 1000000000);
+    let behind = clocked(s, 1000000001);
     stepped(last, 0, 0, 999999999);
     stepped(over, 0, 0, 1000000000);
     stepped(over, 0, 0, 999999999);
