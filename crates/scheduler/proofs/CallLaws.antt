@@ -91,7 +91,7 @@ pub record One-place (s s' : State) (j : ℕ) (e : Entry) : Type 0 where
   pub sized : Sized s'
 
 -- the records stand as they stood
-task-stays : (s s' : State) (j : ℕ) (e : Entry) → One-place s s' j e → (i : ℕ) → entryIn s' i .task ≡ entryIn s i .task
+pub task-stays : (s s' : State) (j : ℕ) (e : Entry) → One-place s s' j e → (i : ℕ) → entryIn s' i .task ≡ entryIn s i .task
 task-stays s s' j e O i = by-eq i j (entryIn s' i .task ≡ entryIn s i .task)
     (λ q. rw q (ap {A = Entry} (λ x. x .task) (O .here) ∙ O .task-same))
     (λ n. ap {A = Entry} (λ x. x .task) (O .there i n))
@@ -289,6 +289,9 @@ unfolding entriesOf
 entries-spare table zero i m l = getD-replicate places i noEntry noEntry l
 entries-spare table (suc n) i m l =
     getD-set-other (entriesOf table n) n i (freshEntry table n) noEntry (λ q. omega arith) ∙ entries-spare table n i (omega arith) l
+
+pub fresh-entry : (table : List ℕ) (n i : ℕ) → n ≤ places → i < n → entryIn (freshState table n) i ≡ freshEntry table i
+fresh-entry = entries-at
 
 -- every place of a fresh state rests and was never released
 pub fresh-rests : (table : List ℕ) (n i : ℕ) → n ≤ places → i < places

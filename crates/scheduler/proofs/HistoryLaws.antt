@@ -83,10 +83,14 @@ left-here s s' j e O = ap {A = Entry} (λ x. workLeft (x .job)) (O .here)
 left-there : (s s' : State) (j : ℕ) (e : Entry) → One-place s s' j e → (i : ℕ) → i ≢ j → leftIn s' i ≡ leftIn s i
 left-there s s' j e O i n = ap {A = Entry} (λ x. workLeft (x .job)) (O .there i n)
 
+-- a refused call
+kept-refused : (p : Past) (refusals : ℕ) → Kept p → Kept (record { state = p .state; tally = p .tally; demands = p .demands; runs = p .runs; refusals = refusals })
+kept-refused p refusals K = record { sized = K .sized; lawful-state = K .lawful-state; counted = K .counted; each = K .each; total = K .total }
+
 -- an accepted release
-kept-release : (p : Past) (task demand : ℕ) → Kept p → Free-task (p .state) task demand
-    → Kept (record { state = releasedState (p .state) task demand; tally = p .tally; demands = plusAt (task - 1) demand (p .demands); runs = p .runs })
-kept-release p task demand K F = record {
+kept-release : (p : Past) (task demand refusals : ℕ) → Kept p → Free-task (p .state) task demand
+    → Kept (record { state = releasedState (p .state) task demand; tally = p .tally; demands = plusAt (task - 1) demand (p .demands); runs = p .runs; refusals = refusals })
+kept-release p task demand refusals K F = record {
   sized = P .place .sized;
   lawful-state = keeps-lawful (p .state) (releasedState (p .state) task demand) j (releasedEntry (p .state) j demand) (K .lawful-state) P;
   counted = K .counted;
@@ -108,9 +112,9 @@ kept-release p task demand K F = record {
     P = release-place (p .state) task demand (K .sized) F
 
 -- a tick
-kept-tick : (p : Past) → Kept p → p .state .clock < clockEnd
-    → Kept (record { state = behind (p .state) (tickOf (p .state)); tally = raised (p .tally) (tickOf (p .state)); demands = p .demands; runs = ran (p .runs) (ticked.Tick (tickOf (p .state))) })
-kept-tick p K l = go (tick-is (p .state))
+kept-tick : (p : Past) (refusals : ℕ) → Kept p → p .state .clock < clockEnd
+    → Kept (record { state = behind (p .state) (tickOf (p .state)); tally = raised (p .tally) (tickOf (p .state)); demands = p .demands; runs = ran (p .runs) (ticked.Tick (tickOf (p .state))); refusals = refusals })
+kept-tick p refusals K l = go (tick-is (p .state))
   where
     s : State
     s = p .state
@@ -118,7 +122,7 @@ kept-tick p K l = go (tick-is (p .state))
     B : Sized (behind s (tickOf s)) × Lawful-state (behind s (tickOf s))
     B = behind-lawful s (K .sized) (K .lawful-state) l
 
-    go : Tick-is s → Kept (record { state = behind s (tickOf s); tally = raised (p .tally) (tickOf s); demands = p .demands; runs = ran (p .runs) (ticked.Tick (tickOf s)) })
+    go : Tick-is s → Kept (record { state = behind s (tickOf s); tally = raised (p .tally) (tickOf s); demands = p .demands; runs = ran (p .runs) (ticked.Tick (tickOf s)); refusals = refusals })
     go (slots a e) = record {
       sized = B .0;
       lawful-state = B .1;
@@ -174,13 +178,13 @@ unfolding next
 kept-next p (release task demand) K = go (releaseAnswer (p .state) task demand) refl
   where
     go : (a : Answer) → releaseAnswer (p .state) task demand ≡ a → Kept (next p (release task demand))
-    go Accepted q = rw q (kept-release p task demand K (accepted-says (p .state) task demand q))
-    go (Refused r) q = rw q K
+    go Accepted q = rw q (kept-release p task demand _ K (accepted-says (p .state) task demand q))
+    go (Refused r) q = rw q (kept-refused p _ K)
 kept-next p step K = go (step-is (p .state) (p .tally))
   where
     go : Step-is (p .state) (p .tally) → Kept (next p step)
-    go (moves f c l q) = rw q (kept-tick p K l)
-    go (stays r q) = rw q K
+    go (moves f c l q) = rw q (kept-tick p _ K l)
+    go (stays r q) = rw q (kept-refused p _ K)
 
 -- so does every list of calls
 pub kept-after : (p : Past) (calls : List Call) → Kept p → Kept (after p calls)

@@ -23,12 +23,14 @@ pub data Call : Type 0 where
   release : ℕ → ℕ → Call
   step : Call
 
--- what calls have made: the state and the tally and, by place, the sum of the accepted demands and the ticks run
+-- what calls have made: the state and the tally and, by place, the sum of the accepted demands and the ticks run; and how
+-- many calls were refused
 pub record Past : Type 0 where
   pub state : State
   pub tally : Tally
   pub demands : ℕ → ℕ
   pub runs : ℕ → ℕ
+  pub refusals : ℕ
 
 -- f, with x more at place j
 unfoldable pub plusAt : ℕ → ℕ → (ℕ → ℕ) → ℕ → ℕ
@@ -46,6 +48,15 @@ ran f (ticked.Tick Slot) = f
 ran f (ticked.Tick Tail) = f
 ran f (ticked.Refused r) = f
 
+-- a refused call, a release or a step
+abbrev pub turnedAway : Answer → ℕ
+turnedAway Accepted = 0
+turnedAway (Refused r) = 1
+
+abbrev pub untaken : Ticked → ℕ
+untaken (ticked.Tick t) = 0
+untaken (ticked.Refused r) = 1
+
 -- one call more
 unfoldable pub next : Past → Call → Past
 next p (release task demand) = record {
@@ -53,12 +64,14 @@ next p (release task demand) = record {
   tally = p .tally;
   demands = demanded task demand (p .demands) (releaseOf (p .state) task demand .answer);
   runs = p .runs;
+  refusals = p .refusals + turnedAway (releaseOf (p .state) task demand .answer);
 }
 next p step = record {
   state = stepOf (p .state) (p .tally) .state;
   tally = stepOf (p .state) (p .tally) .tally;
   demands = p .demands;
   runs = ran (p .runs) (stepOf (p .state) (p .tally) .answer);
+  refusals = p .refusals + untaken (stepOf (p .state) (p .tally) .answer);
 }
 
 -- a list of calls
@@ -68,7 +81,7 @@ after p (call ∷ calls) = after (next p call) calls
 
 -- a state before any call, a tally of zeros beside it
 abbrev pub begun : State → Past
-begun s = record { state = s; tally = record { run = 0; slot = 0; tail = 0 }; demands = λ i. 0; runs = λ i. 0 }
+begun s = record { state = s; tally = record { run = 0; slot = 0; tail = 0 }; demands = λ i. 0; runs = λ i. 0; refusals = 0 }
 
 -- the work left of a job
 abbrev pub workLeft : Job → ℕ

@@ -1,0 +1,152 @@
+-- The response bound and the rest behind a tail tick, carried over to histories of calls.
+use Prim.Native.Nat.{ℕ, zero, suc, _+_, _-_, _*_, _/_, _%_, _≤_, _<_}
+use mathlib.Core.Path.{_≡_, refl, ap, sym, _∙_}
+use mathlib.Core.List.{List, [], _∷_}
+use mathlib.Core.Bool.{Bool, true, false, cond}
+use native.Mathlib.Omega.{arith}
+use lib.Dec.{leb}
+use lib.ListN.{set}
+use borrow.Author.Tests.{leb-false}
+use Rattle.theory.specs.System as theory
+use Rattle.theory.specs.System.{Rules, Sound, ready, demand, Reach, Ran, Tailed}
+use Rattle.theory.specs.Ready.{wait-most, wait-none}
+use Rattle.theory.specs.Rounds.{Window}
+use Rattle.theory.specs.Response.{response}
+use Rattle.theory.specs.Figures.{Windowed}
+use Rattle.theory.specs.Tail.{After, here, boundary, tail-still}
+use Rattle.table.specs.declared.Reading.the-variants as read
+use Rattle.table.specs.Sound.{readOf}
+use Rattle.table.specs.Set.{rulesOf}
+use Rattle.admission.specs.Figure.{waiting, wait, limit, figure}
+use Rattle.scheduler.specs.declared.Job.{Job}
+use Rattle.scheduler.specs.declared.Job.the-variants.{Resting, Working}
+use Rattle.scheduler.specs.declared.State.{State}
+use Rattle.scheduler.specs.declared.Tick.{Tick}
+use Rattle.scheduler.specs.declared.Tick.the-variants.{Run, Slot, Tail}
+use Rattle.scheduler.specs.declared.Ticked.{Ticked}
+use Rattle.scheduler.specs.declared.Ticked.the-variants as ticked
+use Rattle.scheduler.specs.declared.Moved.{Moved}
+use Rattle.scheduler.specs.States.{clockEnd, entryIn}
+use Rattle.scheduler.specs.Starts.{freshState}
+use Rattle.scheduler.specs.Steps.{firstReady, workedJob, workedOf, tickOf, later, behind, stepOf}
+use Rattle.scheduler.specs.History.{Call, step, Past, next, after, begun}
+use Rattle.scheduler.proofs.CallLaws.{Step-is, moves, stays, step-is, Tick-is, slots, runs, tails, tick-is}
+use Rattle.bridge.specs.Views.{jobView, viewOf}
+use Rattle.bridge.specs.Moves.{May, runner, tick-tailed, tick-ran}
+use Rattle.bridge.specs.Runs.{Bridged, bridged-next, bridged-after, go-on, history-bridged, history-reaches, rules-sound}
+
+-- no job of task i waits longer than the wait for its boundary
+pub waits : (table : List ℕ) (n i t : ℕ) → readOf table ≡ read.Sound n → rulesOf table .Ok i t → ready (rulesOf table .H) t ≤ t + wait (rulesOf table) i
+unfolding waiting
+waits table n zero t e ok = wait-none (rulesOf table .H) t (omega (arith, rules-sound table n e .room)) (ok .1 refl)
+waits table n (suc i) t e ok = wait-most (rulesOf table .H) t (omega (arith, rules-sound table n e .room))
+
+-- a window of task i, as the theory's bound takes it
+pub windowed : (table : List ℕ) (n i w : ℕ) → readOf table ≡ read.Sound n → Window (rulesOf table) i (limit (rulesOf table) i) w
+    → Windowed (rulesOf table) i w (wait (rulesOf table) i)
+windowed table n i w e W = record { some = W .some; fits = W .fits; waiting = λ t ok. waits table n i t e ok }
+
+-- A TASK AT WORK ON A JOB RELEASED AT a is so at a clock below a + its figure
+pub working-below : (table : List ℕ) (n i w a l : ℕ) (calls : List Call) → readOf table ≡ read.Sound n → Window (rulesOf table) i (limit (rulesOf table) i) w
+    → entryIn (after (begun (freshState table n)) calls .state) i .job ≡ Working a l
+    → after (begun (freshState table n)) calls .state .clock < a + figure (rulesOf table) i w
+working-below table n i w a l calls e W j =
+    response (rulesOf table) i w (wait (rulesOf table) i) (viewOf (after (begun (freshState table n)) calls .state)) a l
+    (rules-sound table n e) (W .some) (W .fits) (λ t ok. waits table n i t e ok) (history-reaches table n calls e) (ap jobView j)
+
+-- a step that answers a tick moved
+pub step-moved : (p : Past) (tick : Tick) → stepOf (p .state) (p .tally) .answer ≡ ticked.Tick tick
+    → (p .state .clock < clockEnd) × (tickOf (p .state) ≡ tick) × (next p step .state ≡ behind (p .state) tick)
+unfolding next
+step-moved p tick e = go (step-is (p .state) (p .tally))
+  where
+    go : Step-is (p .state) (p .tally) → (p .state .clock < clockEnd) × (tickOf (p .state) ≡ tick) × (stepOf (p .state) (p .tally) .state ≡ behind (p .state) tick)
+    go (stays r q) =
+        let w : ticked.Refused r ≡ ticked.Tick tick = sym (ap {A = Moved} (λ m. m .answer) q) ∙ e in
+        let z : _≡_ {A = ℕ} 0 1 = cc in absurd (let y : ⊥ = omega arith in y)
+    go (moves f c l q) =
+        let w : ticked.Tick (tickOf (p .state)) ≡ ticked.Tick tick = sym (ap {A = Moved} (λ m. m .answer) q) ∙ e in
+        let same : tickOf (p .state) ≡ tick = cc in
+        (l, same, rw (← same) (ap {A = Moved} (λ m. m .state) q))
+
+-- a run names the first task that may run, and leaves it one unit less
+pub record Run-is (table : List ℕ) (p : Past) (k : ℕ) : Type 0 where
+  pub numbered : k ≡ firstReady (p .state) + 1
+  pub a : ℕ
+  pub l : ℕ
+  pub was : entryIn (p .state) (firstReady (p .state)) .job ≡ Working a (suc l)
+  pub ran : Ran (rulesOf table) (firstReady (p .state)) a l (viewOf (p .state)) (viewOf (next p step .state))
+
+pub run-is : (table : List ℕ) (n : ℕ) (p : Past) (k : ℕ) → Bridged table n p → stepOf (p .state) (p .tally) .answer ≡ ticked.Tick (Run k) → Run-is table p k
+run-is table n p k B e = go (tick-is s)
+  where
+    s : State
+    s = p .state
+
+    M : (s .clock < clockEnd) × (tickOf s ≡ Run k) × (next p step .state ≡ behind s (Run k))
+    M = step-moved p (Run k) e
+
+    go : Tick-is s → Run-is table p k
+    go (slots a q) = let w : Slot ≡ Run k = sym q ∙ M .1 in let z : _≡_ {A = ℕ} 0 1 = cc in absurd (let y : ⊥ = omega arith in y)
+    go (tails a b q) = let w : Tail ≡ Run k = sym q ∙ M .1 in let z : _≡_ {A = ℕ} 0 1 = cc in absurd (let y : ⊥ = omega arith in y)
+    go (runs a b q) = by-left (m .a) (m .l) (m .is) (B .kept .lawful-state .task (firstReady s) b .job-fits (m .a) (m .l) (m .is) .0)
+      where
+        m : May (s .sleep .period) (s .clock) (entryIn s (firstReady s) .job)
+        m = runner s b
+
+        named : k ≡ firstReady s + 1
+        named = let w : Run (firstReady s + 1) ≡ Run k = sym q ∙ M .1 in cc
+
+        to : next p step .state ≡ later s (set (s .entries) (firstReady s) (workedOf (entryIn s (firstReady s))))
+        to =
+            let same : firstReady s + 1 - 1 ≡ firstReady s = omega arith in
+            M .2 ∙ rw (named, same)
+
+        by-left : (x l : ℕ) → entryIn s (firstReady s) .job ≡ Working x l → 1 ≤ l → Run-is table p k
+        by-left x zero is some = absurd (let z : ⊥ = omega arith in z)
+        by-left x (suc l) is some = record {
+          numbered = named;
+          a = x;
+          l = l;
+          was = is;
+          ran = rw to (tick-ran table n s x l (B .holds) (B .kept .sized) (B .kept .lawful-state) (M .0) a b is);
+        }
+
+-- BEHIND A TAIL TICK no task runs before the end of the sleep slot that starts at the first boundary after it
+pub tail-rests : (table : List ℕ) (n k : ℕ) (before between : List Call) → readOf table ≡ read.Sound n
+    → stepOf (after (begun (freshState table n)) before .state) (after (begun (freshState table n)) before .tally) .answer ≡ ticked.Tick Tail
+    → stepOf (after (next (after (begun (freshState table n)) before) step) between .state) (after (next (after (begun (freshState table n)) before) step) between .tally) .answer
+    ≡ ticked.Tick (Run k)
+    → boundary (rulesOf table .H) (after (begun (freshState table n)) before .state .clock) + rulesOf table .S
+    ≤ after (next (after (begun (freshState table n)) before) step) between .state .clock
+tail-rests table n k before between e tail run = tail-still (rulesOf table) (viewOf (p .state)) (viewOf (p' .state)) (viewOf (u .state)) (viewOf (next u step .state))
+    (firstReady (u .state)) (R .a) (R .l) (rules-sound table n e) tailed (go-on table n (viewOf (p' .state)) p' between B' here) (R .ran)
+  where
+    p : Past
+    p = after (begun (freshState table n)) before
+
+    B : Bridged table n p
+    B = history-bridged table n before e
+
+    p' : Past
+    p' = next p step
+
+    B' : Bridged table n p'
+    B' = bridged-next table n p step B
+
+    u : Past
+    u = after p' between
+
+    R : Run-is table u k
+    R = run-is table n u k (bridged-after table n p' between B') run
+
+    M : (p .state .clock < clockEnd) × (tickOf (p .state) ≡ Tail) × (p' .state ≡ behind (p .state) Tail)
+    M = step-moved p Tail tail
+
+    tailed : Tailed (rulesOf table) (viewOf (p .state)) (viewOf (p' .state))
+    tailed = go (tick-is (p .state))
+      where
+        go : Tick-is (p .state) → Tailed (rulesOf table) (viewOf (p .state)) (viewOf (p' .state))
+        go (slots a q) = let w : Slot ≡ Tail = sym q ∙ M .1 in let z : _≡_ {A = ℕ} 0 1 = cc in absurd (let y : ⊥ = omega arith in y)
+        go (runs a b q) = let w : Run (firstReady (p .state) + 1) ≡ Tail = sym q ∙ M .1 in let z : _≡_ {A = ℕ} 0 1 = cc in absurd (let y : ⊥ = omega arith in y)
+        go (tails a b q) = rw (M .2) (tick-tailed table n (p .state) (B .holds) (B .kept .sized) (B .kept .lawful-state) a b)
