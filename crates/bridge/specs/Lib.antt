@@ -6,3 +6,5 @@ pub mod Moves
 pub mod Runs
 -- the response bound, and rest behind a tail tick
 pub mod Bounds
+-- the worst pattern as a run
+pub mod Worst

@@ -7,7 +7,7 @@ use mathlib.Core.Path.{_≡_}
 use mathlib.Core.Logic.{_↔_}
 use mathlib.Core.List.{List}
 use mathlib.Core.Bool.{true}
-use borrow.Author.Tests.{leb-true, le-leb, lt-leb, eq-eqb}
+use borrow.Author.Tests.{leb-true, le-leb}
 use Rattle.theory.specs.Sum.{sumTo}
 use Rattle.theory.specs.System.{ready}
 use Rattle.table.specs.declared.Refusal.{Refusal}
@@ -29,7 +29,7 @@ use Rattle.scheduler.specs.Lawful.{Lawful-state}
 use Rattle.scheduler.specs.Starts.{freshState}
 use Rattle.scheduler.specs.Steps.{mayRun, tickOf, made, stepOf}
 use Rattle.scheduler.specs.History.{Call, after, begun, leftIn}
-use Rattle.scheduler.proofs.StateLaws.{says-fits}
+use Rattle.scheduler.proofs.CallLaws.{step-made}
 use Rattle.scheduler.proofs.HistoryLaws.{history-kept, accounts}
 use Rattle.scheduler.proofs.HistoryLaws as laws-of-history
 
@@ -63,8 +63,7 @@ unsound-refused bytes refusal e = rw e
 -- The state behind it and the tally are those of document 01 (`behind`, `raised`).
 pub each-tick : (s : State) (t : Tally) → Lawful-state s → t .run + t .slot + t .tail ≡ s .clock → s .clock < clockEnd
     → stepOf s t ≡ made s t (tickOf s)
-unfolding stepOf
-each-tick s t L c l = rw (says-fits s L, eq-eqb _ _ c, lt-leb _ _ l)
+each-tick = step-made
 
 -- a job may run at a tick exactly when the smallest multiple of H that is at least its release is not behind the tick
 pub may-run-from : (h clock a l : ℕ) → (mayRun h clock (Working a l) ≡ true) ↔ (ready h a ≤ clock)

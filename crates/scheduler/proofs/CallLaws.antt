@@ -9,7 +9,7 @@ use native.Mathlib.Omega.{arith}
 use lib.Dec.{leb, ltb}
 use lib.ListN.{length, getD, set, length-set, getD-replicate}
 use lib.Seq.{getD-set-same, getD-set-other}
-use borrow.Author.Tests.{leb-false, ltb-true, ltb-false}
+use borrow.Author.Tests.{leb-false, ltb-true, ltb-false, eq-eqb, lt-leb}
 use Rattle.theory.specs.Split.{by-lt, by-eq}
 use Rattle.theory.specs.First.{first-is}
 use Rattle.table.specs.declared.Record.{Record}
@@ -37,6 +37,7 @@ use Rattle.scheduler.specs.Lawful.{Lawful-task, Lawful-state}
 use Rattle.scheduler.specs.Starts.{freshState, noState}
 use Rattle.scheduler.specs.Releases.{releaseAnswer, releasedState, releaseOf}
 use Rattle.scheduler.specs.Steps.{mayRun, firstReady, workedJob, workedOf, tickOf, later, behind, made, unmoved, stepOf}
+use Rattle.scheduler.proofs.StateLaws.{says-fits}
 use Rattle.scheduler.proofs.ReleaseLaws.{Free-task}
 
 -- a state has its 16 places (as every state of the code has)
@@ -66,6 +67,11 @@ step-is s t = go (stateFits s && tallyFits t (s .clock)) refl (leb clockEnd (s .
     go false q e w = stays refusal.Rules (rw q)
     go true q true w = stays refusal.ClockEnd (rw (q, w))
     go true q false w = let b = and-eq-true-iff (stateFits s) (tallyFits t (s .clock)) .0 q in moves (b .0) (b .1) (leb-false _ _ w) (rw (q, w))
+
+-- a step on a state that keeps its rules, with a tally that sums to its clock, before the end
+pub step-made : (s : State) (t : Tally) → Lawful-state s → t .run + t .slot + t .tail ≡ s .clock → s .clock < clockEnd → stepOf s t ≡ made s t (tickOf s)
+unfolding stepOf
+step-made s t L c l = rw (says-fits s L, eq-eqb _ _ c, lt-leb _ _ l)
 
 pub step-refused : (s : State) (t : Tally) (r : Refusal) → stepOf s t .answer ≡ ticked.Refused r → (stepOf s t .state ≡ s) × (stepOf s t .tally ≡ t)
 step-refused s t r e = go (step-is s t)

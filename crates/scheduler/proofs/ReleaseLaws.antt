@@ -4,7 +4,8 @@ use mathlib.Core.Path.{_≡_, refl}
 use mathlib.Core.Bool.{false, cond, _&&_, and-eq-true-iff}
 use native.Mathlib.Omega.{arith}
 use lib.Dec.{leb}
-use borrow.Author.Tests.{leb-true, leb-false, ltb-false, eqb-true, eq-eqb, not-false}
+use borrow.Author.Tests.{leb-true, leb-false, ltb-false, eqb-true, le-leb, lt-leb, le-ltb, eq-eqb, ne-eqb, not-false}
+use Rattle.theory.specs.Split.{by-eq}
 use Rattle.table.specs.declared.Refusal.{Refusal}
 use Rattle.table.specs.declared.Refusal.the-variants as refusal
 use Rattle.table.proofs.SoundLaws.{chosen, passed}
@@ -17,7 +18,7 @@ use Rattle.scheduler.specs.declared.Answer.the-variants.{Accepted, Refus
 use Rattle.scheduler.specs.States.{clockEnd, entryIn, stateFits}
 use Rattle.scheduler.specs.Lawful.{Lawful-state}
 use Rattle.scheduler.specs.Releases.{working, early, offBoundary, from11, from10, from9, from8, from7, releaseAnswer}
-use Rattle.scheduler.proofs.StateLaws.{fits-says}
+use Rattle.scheduler.proofs.StateLaws.{fits-says, says-fits}
 
 -- what an accepted release found: the rules kept, the clock not at its end, a task that there is, a demand of 1 to C,
 -- task 1 on a boundary, the task at rest, and its last release a period ago or more
@@ -73,3 +74,29 @@ accepted-says s task demand e =
       resting = rests (entryIn s (task - 1) .job) (p11 .0);
       spaced = not-early (entryIn s (task - 1) .last) (entryIn s (task - 1) .task .period) (s .clock) (p12 .0);
     }
+
+-- AND A RELEASE THAT FINDS ALL THAT is accepted
+pub says-accepted : (s : State) (task demand : ℕ) → Free-task s task demand → releaseAnswer s task demand ≡ Accepted
+unfolding releaseAnswer from7 from8 from9
+says-accepted s task demand F =
+    rw (
+      says-fits s (F .lawful-state),
+      lt-leb _ _ (F .before-end),
+      le-leb _ _ (F .from-one),
+      le-leb _ _ (F .to-n),
+      le-leb _ _ (F .some),
+      le-leb _ _ (F .full),
+      on,
+      F .resting,
+      late (entryIn s (task - 1) .last) (F .spaced),
+    )
+  where
+    on : offBoundary task (s .clock) (s .sleep .period) ≡ false
+    on = by-eq task 1 (offBoundary task (s .clock) (s .sleep .period) ≡ false)
+        (λ q. rw (eq-eqb task 1 q, eq-eqb _ _ (F .boundary q)))
+        (λ n. rw (ne-eqb task 1 n))
+
+    late : (last : Last) → ((a : ℕ) → last ≡ At a → a + entryIn s (task - 1) .task .period ≤ s .clock)
+        → early last (entryIn s (task - 1) .task .period) (s .clock) ≡ false
+    late Never f = refl
+    late (At a) f = le-ltb _ _ (f a refl)

@@ -12,3 +12,5 @@ pub mod Steps
 pub mod Energies
 -- lists of calls and what they make of a start
 pub mod History
+-- the worst pattern as a list of calls
+pub mod Pattern

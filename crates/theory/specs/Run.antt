@@ -163,7 +163,7 @@ alone o t zero p c lt e h k = omega arith
 alone o t (suc n) p c lt e h k = omega arith
 
 -- so the release that is due is accepted
-free-due : (R : Rules) (o : ℕ → ℕ) (i j : ℕ) (v : View) → Sound R → Offsets R o → Pattern R o i v → j ≤ i → Free R o j (v .clock)
+pub free-due : (R : Rules) (o : ℕ → ℕ) (i j : ℕ) (v : View) → Sound R → Offsets R o → Pattern R o i v → j ≤ i → Free R o j (v .clock)
     → Due R o j (v .clock) → v .last j ≢ at (v .clock) → (v .job j ≡ resting) × Allowed (R .T j) (v .last j) (v .clock)
 unfolding Due
 free-due R o i j v ok O P le (windowed w wait W short) due fresh = due-free R o i j w wait v ok O P le W short due fresh
