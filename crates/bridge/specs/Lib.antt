@@ -8,3 +8,5 @@ pub mod Runs
 pub mod Bounds
 -- the worst pattern as a run
 pub mod Worst
+-- the figures reached, and the late task
+pub mod Reached

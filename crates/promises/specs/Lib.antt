@@ -4,5 +4,7 @@ pub mod Cases
 pub mod Demand1
 -- demand 2: each tick, who is admitted, and the figures and counts
 pub mod Demand2
+-- demand 3: no job late, each figure reached, rest behind a tail tick
+pub mod Demand3
 -- any two results that a promise allows are equal
 pub mod Settled
