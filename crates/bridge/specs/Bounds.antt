@@ -1,34 +1,28 @@
 -- The response bound and the rest behind a tail tick, carried over to histories of calls.
-use Prim.Native.Nat.{ℕ, zero, suc, _+_, _-_, _*_, _/_, _%_, _≤_, _<_}
+use Prim.Native.Nat.{ℕ, zero, suc, _+_, _-_, _≤_, _<_}
 use mathlib.Core.Path.{_≡_, refl, ap, sym, _∙_}
-use mathlib.Core.List.{List, [], _∷_}
-use mathlib.Core.Bool.{Bool, true, false, cond}
+use mathlib.Core.List.{List}
 use native.Mathlib.Omega.{arith}
-use lib.Dec.{leb}
 use lib.ListN.{set}
-use borrow.Author.Tests.{leb-false}
-use Rattle.theory.specs.System as theory
-use Rattle.theory.specs.System.{Rules, Sound, ready, demand, Reach, Ran, Tailed}
+use Rattle.theory.specs.System.{Sound, ready, Ran, Tailed}
 use Rattle.theory.specs.Ready.{wait-most, wait-none}
 use Rattle.theory.specs.Rounds.{Window}
 use Rattle.theory.specs.Response.{response}
 use Rattle.theory.specs.Figures.{Windowed}
-use Rattle.theory.specs.Tail.{After, here, boundary, tail-still}
+use Rattle.theory.specs.Tail.{here, boundary, tail-still}
 use Rattle.table.specs.declared.Reading.the-variants as read
 use Rattle.table.specs.Sound.{readOf}
 use Rattle.table.specs.Set.{rulesOf}
 use Rattle.admission.specs.Figure.{waiting, wait, limit, figure}
-use Rattle.scheduler.specs.declared.Job.{Job}
-use Rattle.scheduler.specs.declared.Job.the-variants.{Resting, Working}
+use Rattle.scheduler.specs.declared.Job.the-variants.{Working}
 use Rattle.scheduler.specs.declared.State.{State}
 use Rattle.scheduler.specs.declared.Tick.{Tick}
 use Rattle.scheduler.specs.declared.Tick.the-variants.{Run, Slot, Tail}
-use Rattle.scheduler.specs.declared.Ticked.{Ticked}
 use Rattle.scheduler.specs.declared.Ticked.the-variants as ticked
 use Rattle.scheduler.specs.declared.Moved.{Moved}
 use Rattle.scheduler.specs.States.{clockEnd, entryIn}
 use Rattle.scheduler.specs.Starts.{freshState}
-use Rattle.scheduler.specs.Steps.{firstReady, workedJob, workedOf, tickOf, later, behind, stepOf}
+use Rattle.scheduler.specs.Steps.{firstReady, workedOf, tickOf, later, behind, stepOf}
 use Rattle.scheduler.specs.History.{Call, step, Past, next, after, begun}
 use Rattle.scheduler.proofs.CallLaws.{Step-is, moves, stays, step-is, Tick-is, slots, runs, tails, tick-is}
 use Rattle.bridge.specs.Views.{jobView, viewOf}

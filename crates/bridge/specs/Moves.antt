@@ -1,35 +1,31 @@
 -- An accepted release is a release of the abstract scheduler, and a step that is not refused one of its ticks.
 use Prim.Native.Nat.{ℕ, zero, suc, _+_, _-_, _%_, _≤_, _<_}
-use mathlib.Core.Path.{_≡_, refl, ap, sym, _∙_}
-use mathlib.Core.Logic.{_≢_}
+use mathlib.Core.Path.{_≡_, refl, ap, _∙_}
 use mathlib.Core.List.{List}
-use mathlib.Core.Bool.{Bool, true, false, cond}
+use mathlib.Core.Bool.{true, false}
 use native.Mathlib.Omega.{arith}
 use native.Mathlib.Numerals.{add-one}
-use lib.Dec.{leb}
-use lib.ListN.{set, length, getD, List·getD-eq-default}
-use borrow.Author.Tests.{leb-true, leb-false, le-leb, lt-leb}
+use lib.ListN.{set, List·getD-eq-default}
+use borrow.Author.Tests.{leb-true, leb-false, lt-leb}
 use Rattle.theory.specs.Split.{by-lt, by-eq}
 use Rattle.theory.specs.First.{first-is}
 use Rattle.theory.specs.System as theory
-use Rattle.theory.specs.System.{Rules, View, ready, worked, Allowed, Idle, Released, Slotted, Ran, Tailed, Tick, slotted, ran, tailed}
+use Rattle.theory.specs.System.{ready, worked, Allowed, Idle, Released, Slotted, Ran, Tailed}
 use Rattle.table.specs.Sound.{places}
 use Rattle.table.specs.Set.{rulesOf}
-use Rattle.table.specs.Bytes.{recordsIn}
 use Rattle.scheduler.specs.declared.Job.{Job}
 use Rattle.scheduler.specs.declared.Job.the-variants.{Resting, Working}
 use Rattle.scheduler.specs.declared.Last.{Last}
 use Rattle.scheduler.specs.declared.Last.the-variants.{Never, At}
 use Rattle.scheduler.specs.declared.Entry.{Entry}
 use Rattle.scheduler.specs.declared.State.{State}
-use Rattle.scheduler.specs.declared.Tick.the-variants.{Run, Slot, Tail}
 use Rattle.scheduler.specs.States.{clockEnd, noEntry, entryIn}
 use Rattle.scheduler.specs.Lawful.{Lawful-state}
 use Rattle.scheduler.specs.Releases.{releasedState}
-use Rattle.scheduler.specs.Steps.{mayRun, firstReady, workedJob, workedOf, tickOf, later, behind}
+use Rattle.scheduler.specs.Steps.{mayRun, firstReady, workedJob, workedOf, later}
 use Rattle.scheduler.proofs.ReleaseLaws.{Free-task}
-use Rattle.scheduler.proofs.CallLaws.{Sized, One-place, Keeps, releasedEntry, release-place, first-says, run-place}
-use Rattle.bridge.specs.Views.{jobView, lastView, viewOf, job-back, Holds-table, work-of, period-of}
+use Rattle.scheduler.proofs.CallLaws.{Sized, One-place, releasedEntry, release-place, first-says, run-place}
+use Rattle.bridge.specs.Views.{jobView, lastView, viewOf, Holds-table, work-of, period-of}
 
 -- a place that is no task's rests
 pub beyond-rests : (s : State) → Sized s → Lawful-state s → (i : ℕ) → s .n ≤ i → entryIn s i ≡ noEntry

@@ -1,9 +1,9 @@
 -- The worst pattern reaches each figure exactly, and shows the first task without a window late.
 use Prim.Native.Nat.{ℕ, zero, suc, _+_, _-_, _*_, _≤_, _<_}
-use mathlib.Core.Path.{_≡_, refl, ap, sym, _∙_}
+use mathlib.Core.Path.{_≡_, refl, ap}
 use mathlib.Core.List.{List}
 use native.Mathlib.Omega.{arith}
-use Rattle.theory.specs.Split.{by-lt, by-eq}
+use Rattle.theory.specs.Split.{by-lt}
 use Rattle.theory.specs.System as theory
 use Rattle.theory.specs.System.{Rules, View, Sound, Reach}
 use Rattle.theory.specs.Reachable.{Fine, reach-fine}
@@ -11,17 +11,15 @@ use Rattle.theory.specs.Rounds.{Window, Passed, passed-none}
 use Rattle.theory.specs.Response.{response}
 use Rattle.theory.specs.Worst.{Pattern, begin, release, tick, pattern-reach, Count, none, some, follows}
 use Rattle.theory.specs.Figures.{offset, reached-before, late}
-use Rattle.theory.specs.Run.{Free, windowed, one-job}
+use Rattle.theory.specs.Free.{Free, windowed, one-job}
 use Rattle.table.specs.declared.Reading.the-variants as read
 use Rattle.table.specs.Bytes.{recordAt, recordsIn}
-use Rattle.table.specs.Sound.{largest, readOf}
+use Rattle.table.specs.Sound.{readOf}
 use Rattle.table.specs.Set.{rulesOf}
 use Rattle.table.proofs.SetLaws.{read-set, works-small, period-is, not-below}
-use Rattle.admission.specs.Figure.{waiting, wait, ticks, limit, figure}
+use Rattle.admission.specs.Figure.{waiting, wait, limit, figure}
 use Rattle.scheduler.specs.declared.Job.{Job}
 use Rattle.scheduler.specs.declared.Job.the-variants.{Resting, Working}
-use Rattle.scheduler.specs.declared.Last.the-variants.{At}
-use Rattle.scheduler.specs.declared.State.{State}
 use Rattle.scheduler.specs.States.{clockEnd, entryIn}
 use Rattle.scheduler.specs.Starts.{freshState}
 use Rattle.scheduler.specs.History.{Past, after, begun}

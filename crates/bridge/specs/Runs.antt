@@ -1,13 +1,12 @@
 -- Every history from a fresh start is a run of the abstract scheduler: its accepted releases are releases there, its
 -- steps ticks, and refused calls change nothing.
-use Prim.Native.Nat.{ℕ, zero, suc, _+_, _-_, _%_, _≤_, _<_}
-use mathlib.Core.Path.{_≡_, refl, ap, sym, _∙_}
+use Prim.Native.Nat.{ℕ, zero, suc, _+_, _-_, _≤_, _<_}
+use mathlib.Core.Path.{_≡_, refl, ap, _∙_}
 use mathlib.Core.List.{List, [], _∷_}
 use native.Mathlib.Omega.{arith}
 use lib.ListN.{set}
 use Rattle.theory.specs.Split.{by-lt}
-use Rattle.theory.specs.System as theory
-use Rattle.theory.specs.System.{Rules, View, Sound, Ran, Tailed, Tick, slotted, ran, tailed, Move, released, ticked, Fresh, Reach, start, move}
+use Rattle.theory.specs.System.{View, Sound, Tick, slotted, ran, tailed, Move, released, ticked, Fresh, Reach, start, move}
 use Rattle.theory.specs.Tail.{After, next as further}
 use Rattle.table.specs.declared.Reading.the-variants as read
 use Rattle.table.specs.Bytes.{recordAt, recordsIn}
@@ -18,22 +17,20 @@ use Rattle.scheduler.specs.declared.Job.the-variants.{Resting, Working}
 use Rattle.scheduler.specs.declared.Last.the-variants.{Never}
 use Rattle.scheduler.specs.declared.Entry.{Entry}
 use Rattle.scheduler.specs.declared.State.{State}
-use Rattle.scheduler.specs.declared.Tally.{Tally}
-use Rattle.scheduler.specs.declared.Tick.the-variants.{Run, Slot, Tail}
 use Rattle.scheduler.specs.declared.Moved.{Moved}
 use Rattle.scheduler.specs.declared.Answer.{Answer}
 use Rattle.scheduler.specs.declared.Answer.the-variants.{Accepted, Refused}
-use Rattle.scheduler.specs.States.{clockEnd, noEntry, entryIn}
+use Rattle.scheduler.specs.States.{clockEnd, entryIn}
 use Rattle.scheduler.specs.Lawful.{Lawful-state}
 use Rattle.scheduler.specs.Starts.{freshState}
 use Rattle.scheduler.specs.Releases.{releaseAnswer, releasedState, releaseOf}
-use Rattle.scheduler.specs.Steps.{firstReady, workedOf, tickOf, later, behind, made, stepOf}
+use Rattle.scheduler.specs.Steps.{firstReady, workedOf, tickOf, later, behind, stepOf}
 use Rattle.scheduler.specs.History.{Call, release, step, Past, next, after, begun}
-use Rattle.scheduler.proofs.ReleaseLaws.{Free-task, accepted-says}
+use Rattle.scheduler.proofs.ReleaseLaws.{accepted-says}
 use Rattle.scheduler.proofs.CallLaws.{Sized, Step-is, moves, stays, step-is, One-place, task-stays, releasedEntry, release-place, Tick-is, slots, runs, tails, tick-is, run-place, fresh-rests, fresh-entry, fresh-lawful}
 use Rattle.scheduler.proofs.HistoryLaws.{Kept, kept-next, kept-begun}
 use Rattle.bridge.specs.Views.{jobView, lastView, viewOf, Holds-table}
-use Rattle.bridge.specs.Moves.{beyond-rests, release-moves, May, runner, tick-slotted, tick-tailed, tick-ran}
+use Rattle.bridge.specs.Moves.{beyond-rests, release-moves, runner, tick-slotted, tick-tailed, tick-ran}
 
 -- THE TICK of a state that keeps its rules is a tick of the abstract scheduler
 pub tick-moves : (table : List ℕ) (n : ℕ) (s : State) → Holds-table table n s → Sized s → Lawful-state s → s .clock < clockEnd

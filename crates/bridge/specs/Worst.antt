@@ -4,18 +4,18 @@ use Prim.Native.Nat.{ℕ, zero, suc, _+_, _-_, _*_, _/_, _%_, _≤_, _<_}
 use mathlib.Core.Path.{_≡_, refl, ap, sym, subst, _∙_}
 use mathlib.Core.Logic.{_≢_}
 use mathlib.Core.List.{List, [], _∷_, _++_}
-use mathlib.Core.Bool.{Bool, true, false, cond, _&&_, and-eq-true-iff}
+use mathlib.Core.Bool.{Bool, true, false, cond, and-eq-true-iff}
 use native.Mathlib.Omega.{arith}
 use native.Mathlib.Nat.{div-add-mod', mul-mod-left}
 use lib.Dec.{leb, eqb}
-use borrow.Author.Tests.{leb-true, eqb-true, le-leb, eq-eqb}
+use borrow.Author.Tests.{leb-true, eqb-true, le-leb}
 use Rattle.theory.specs.Split.{by-lt, by-eq}
 use Rattle.theory.specs.System as theory
-use Rattle.theory.specs.System.{Rules, View, Sound, Allowed, Released, Tick}
+use Rattle.theory.specs.System.{Rules, Sound, Allowed, Released, Tick}
 use Rattle.theory.specs.Figures.{offset, offset-good}
 use Rattle.theory.specs.Worst as worst
 use Rattle.theory.specs.Worst.{Offsets, Due, Pattern, tick-last}
-use Rattle.theory.specs.Run.{Free, free-due}
+use Rattle.theory.specs.Free.{Free, free-due}
 use Rattle.table.specs.declared.Reading.the-variants as read
 use Rattle.table.specs.Bytes.{recordAt, recordsIn}
 use Rattle.table.specs.Sound.{readOf}
@@ -23,18 +23,17 @@ use Rattle.table.specs.Set.{rulesOf}
 use Rattle.table.proofs.SetLaws.{read-set, first-multiple}
 use Rattle.scheduler.specs.declared.Last.{Last}
 use Rattle.scheduler.specs.declared.Last.the-variants.{Never, At}
-use Rattle.scheduler.specs.declared.Entry.{Entry}
 use Rattle.scheduler.specs.declared.State.{State}
 use Rattle.scheduler.specs.declared.Moved.{Moved}
 use Rattle.scheduler.specs.declared.Answer.the-variants.{Accepted}
 use Rattle.scheduler.specs.States.{clockEnd, noEntry, entryIn}
 use Rattle.scheduler.specs.Starts.{freshState}
-use Rattle.scheduler.specs.Releases.{releaseAnswer, releasedState, releaseOf}
-use Rattle.scheduler.specs.Steps.{tickOf, behind, made, stepOf}
+use Rattle.scheduler.specs.Releases.{releasedState, releaseOf}
+use Rattle.scheduler.specs.Steps.{tickOf, behind, stepOf}
 use Rattle.scheduler.specs.History.{Call, release, step, Past, next, after, begun}
 use Rattle.scheduler.specs.Pattern.{dueAt, releasesAt, worstPattern}
 use Rattle.scheduler.proofs.ReleaseLaws.{Free-task, says-accepted}
-use Rattle.scheduler.proofs.CallLaws.{Step-is, moves, stays, step-made}
+use Rattle.scheduler.proofs.CallLaws.{step-made}
 use Rattle.bridge.specs.Views.{lastView, viewOf, rest-back, last-back, work-of, period-of}
 use Rattle.bridge.specs.Moves.{beyond-rests, release-moves}
 use Rattle.bridge.specs.Runs.{Bridged, bridged-next, bridged-begun, begun-fresh, tick-moves, rules-sound}

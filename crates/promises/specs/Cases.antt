@@ -27,7 +27,7 @@ abbrev word : ℕ → List ℕ
 word n = n % 256 ∷ n / 256 % 256 ∷ n / 65536 % 256 ∷ n / 16777216 % 256 ∷ []
 
 -- the bytes of a table, its records labelled upwards from a first label
-pub bytesOf : ℕ → List Row → List ℕ
+unfoldable pub bytesOf : ℕ → List Row → List ℕ
 bytesOf label [] = []
 bytesOf label (c per t ∷ rest) = word label ++ word c ++ word t ++ word 0 ++ bytesOf (label + 1) rest
 
@@ -53,7 +53,7 @@ Every [] = Unit {0}
 Every (c ∷ rest) = Holds c × Every rest
 
 -- A to I
-pub cases : List Case
+unfoldable pub cases : List Case
 cases =
     -- A: the house table
     set 10 (8 per 20 ∷ 2 per 20 ∷ 3 per 50 ∷ 2 per 100 ∷ 4 per 200 ∷ []) (Admitted 4)

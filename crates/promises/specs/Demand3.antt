@@ -8,7 +8,7 @@
 -- A history is any list of calls from `start`, refused ones among them. Places count from 0: the task at place i is task
 -- i + 1. `offset` is H for the first task and 1 for the others: the tick at which the worst pattern first releases it.
 use Prim.Native.Nat.{ℕ, suc, _+_, _-_, _≤_, _<_}
-use mathlib.Core.Path.{_≡_, refl, ap, sym, subst, _∙_}
+use mathlib.Core.Path.{_≡_, refl, sym, subst, _∙_}
 use mathlib.Core.List.{List}
 use native.Mathlib.Omega.{arith}
 use lib.ListN.{getD}
@@ -22,14 +22,14 @@ use Rattle.table.specs.Sound.{readOf}
 use Rattle.table.specs.Set.{rulesOf}
 use Rattle.admission.specs.declared.Answer.the-variants.{Admitted, Refused}
 use Rattle.admission.specs.Figure.{limit, figure}
-use Rattle.admission.specs.Says.{Row, Rows, Judged, admitted, refused}
+use Rattle.admission.specs.Says.{Judged, admitted, refused}
 use Rattle.admission.specs.Verdicts.{admitOf}
 use Rattle.admission.proofs.AdmitLaws.{admit-says}
 use Rattle.scheduler.specs.declared.Job.the-variants.{Resting, Working}
 use Rattle.scheduler.specs.declared.Tick.the-variants.{Run, Tail}
 use Rattle.scheduler.specs.declared.Ticked.the-variants as ticked
 use Rattle.scheduler.specs.States.{clockEnd, entryIn}
-use Rattle.scheduler.specs.Starts.{startOf, freshState}
+use Rattle.scheduler.specs.Starts.{startOf}
 use Rattle.scheduler.specs.Steps.{stepOf}
 use Rattle.scheduler.specs.History.{Call, step, Past, next, after, begun}
 use Rattle.scheduler.specs.Pattern.{worstPattern}

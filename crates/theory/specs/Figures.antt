@@ -5,7 +5,7 @@ use mathlib.Core.Path.{_≡_, refl, ap, _∙_}
 use native.Mathlib.Omega.{arith}
 use native.Mathlib.Nat.{lt-of-mul-lt-mul-right, mul-le-mul-right}
 use mathlib.Core.Logic.{_≢_}
-use Rattle.theory.specs.System.{Job, View, Rules, Sound, ready, worked, Allowed, Ran, Reach, demand, resting, working, never, at}
+use Rattle.theory.specs.System.{Job, View, Rules, Sound, ready, Allowed, Reach, demand, resting, working, never, at}
 use Rattle.theory.specs.Reachable.{Fine, reach-fine}
 use Rattle.theory.specs.Response.{response}
 use Rattle.theory.specs.Worst.{Offsets, Due, Pattern, pattern-reach, Count, follows, Standing, standing, none, some, at-work, fitted}
@@ -15,12 +15,6 @@ pub record Windowed (R : Rules) (i w wait : ℕ) : Type 0 where
   pub some : 1 ≤ w
   pub fits : demand R i w ≤ w
   pub waiting : (t : ℕ) → R .Ok i t → ready (R .H) t ≤ t + wait
-
--- EVERY JOB FINISHES WITHIN THE FIGURE: the tick that runs its last unit ends by then
-pub finish-within : (R : Rules) (i w wait : ℕ) (v v' : View) (a l : ℕ) → Sound R → Windowed R i w wait → Reach R v
-    → Ran R i a l v v' → v' .clock ≤ a + (w + wait)
-finish-within R i w wait v v' a l ok W r t =
-    omega (arith, t .clock-next, response R i w wait v a (suc l) ok (W .some) (W .fits) (W .waiting) r (t .was))
 
 -- the offsets of the worst pattern: H for the first task, 1 for the others
 unfoldable pub offset : Rules → ℕ → ℕ
@@ -95,25 +89,6 @@ reached-before R o i w v ok O P least after early = go (standing R o i v ok O P 
     go : Standing R o i v → (l : ℕ) × (1 ≤ l) × (v .job i ≡ working (o i) l)
     go (at-work l p e) = (l, p, e)
     go (fitted x h d) = absurd (omega (arith, least x d))
-
--- THE PATTERN REACHES THE FIGURE: the tick that finishes task i's first job ends at H + w, w + wait ticks after the release
-pub reached : (R : Rules) (o : ℕ → ℕ) (i w wait : ℕ) (v v' : View) → Sound R → Offsets R o → Pattern R o i v → Pattern R o i v'
-    → Windowed R i w wait → ((x : ℕ) → demand R i x ≤ x → w ≤ x) → o i + wait ≡ R .H → Ran R i (o i) 0 v v'
-    → v' .clock ≡ o i + (w + wait)
-unfolding Fine worked
-reached R o i w wait v v' ok O P P' W least ew t = go (standing R o i v' ok O P' (omega (arith, t .clock-next, past)))
-  where
-    past : o i ≤ v .clock
-    past = reach-fine R v (pattern-reach R o i v P) i (o i) 1 (t .was) .past
-
-    most : v' .clock ≤ o i + (w + wait)
-    most = finish-within R i w wait v v' (o i) 0 ok W (pattern-reach R o i v P) t
-
-    go : Standing R o i v' → v' .clock ≡ o i + (w + wait)
-    go (fitted x h d) = omega (arith, most, least x d)
-    go (at-work l p e) =
-        let q : v' .job i ≡ resting = t .job-new in
-        let z : _≡_ {A = ℕ} 0 1 = cc in absurd (omega arith)
 
 -- A TASK WITHOUT A WINDOW IS LATE: where no window of task i ends within d ticks of its release (d its period, or its
 -- deadline), its first job is at work then

@@ -1,7 +1,6 @@
 -- `vectors::case_j` is safe: the clock stays at or below 40.
 use Prim.Native.Nat.{_≤_, _-_}
 use borrow.Author.Needs.{needs}
-use native.Mathlib.Omega.{arith}
 use Rattle.vectors.proofs.case_j.Statement.{statement}
 use Rattle.vectors.proofs.case_j.Tie as tie
 

@@ -1,7 +1,6 @@
 -- `vectors::figure_3` is safe: the clock stays at or below 90.
 use Prim.Native.Nat.{_≤_, _-_}
 use borrow.Author.Needs.{needs}
-use native.Mathlib.Omega.{arith}
 use Rattle.vectors.proofs.figure_3.Statement.{statement}
 use Rattle.vectors.proofs.figure_3.Tie as tie
 

@@ -1,7 +1,6 @@
 -- `vectors::house_at` is safe: the clock stays at or below t.
 use Prim.Native.Nat.{_≤_, _-_}
 use borrow.Author.Needs.{needs}
-use native.Mathlib.Omega.{arith}
 use Rattle.vectors.proofs.house_at.Statement.{statement}
 use Rattle.vectors.proofs.house_at.Tie as tie
 

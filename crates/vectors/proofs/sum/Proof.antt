@@ -1,7 +1,6 @@
 -- `vectors::sum` is safe: there are 16 places.
 use Prim.Native.Nat.{_≤_, _-_}
 use borrow.Author.Needs.{needs}
-use native.Mathlib.Omega.{arith}
 use Rattle.vectors.proofs.sum.Statement.{statement}
 use Rattle.vectors.proofs.sum.Tie as tie
 
