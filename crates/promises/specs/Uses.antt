@@ -125,6 +125,9 @@ house-rests : (k : ℕ) (between : List Call)
     → stepOf (after (next (history house eight) step) between .state) (after (next (history house eight) step) between .tally) .answer ≡ ticked.Tick (Run k)
     → 28 ≤ after (next (history house eight) step) between .state .clock
 house-rests k between run =
-    let b : boundary (rulesOf house .H) 8 + rulesOf house .S ≤ after (next (history house eight) step) between .state .clock =
-    rw (house-tail .1) at (tail-rests house 4 k eight between house-sound (house-tail .0) run) in
-    omega (arith, house-slot)
+    omega (
+      arith,
+      tail-rests house 4 k eight between house-sound (house-tail .0) run,
+      ap (λ (c : ℕ). boundary (rulesOf house .H) c + rulesOf house .S) (house-tail .1),
+      house-slot,
+    )
