@@ -16,8 +16,155 @@ use table::Record;
 use table::tell;
 
 // The house table and the source's Figure 3 set, as in tables/.
-const HOUSE: [u8; 80] = [10, 0, 0, 0, 8, 0, 0, 0, 20, 0, 0, 0, 0, 0, 0, 0, 11, 0, 0, 0, 2, 0, 0, 0, 20, 0, 0, 0, 0, 0, 0, 0, 12, 0, 0, 0, 3, 0, 0, 0, 50, 0, 0, 0, 0, 0, 0, 0, 13, 0, 0, 0, 2, 0, 0, 0, 100, 0, 0, 0, 0, 0, 0, 0, 14, 0, 0, 0, 4, 0, 0, 0, 200, 0, 0, 0, 0, 0, 0, 0];
-const FIGURE_3: [u8; 64] = [0, 0, 0, 0, 7, 0, 0, 0, 10, 0, 0, 0, 0, 0, 0, 0, 1, 0, 0, 0, 1, 0, 0, 0, 10, 0, 0, 0, 0, 0, 0, 0, 2, 0, 0, 0, 1, 0, 0, 0, 15, 0, 0, 0, 0, 0, 0, 0, 3, 0, 0, 0, 2, 0, 0, 0, 26, 0, 0, 0, 0, 0, 0, 0];
+const HOUSE: [u8; 80] = [
+    10,
+    0,
+    0,
+    0,
+    8,
+    0,
+    0,
+    0,
+    20,
+    0,
+    0,
+    0,
+    0,
+    0,
+    0,
+    0,
+    11,
+    0,
+    0,
+    0,
+    2,
+    0,
+    0,
+    0,
+    20,
+    0,
+    0,
+    0,
+    0,
+    0,
+    0,
+    0,
+    12,
+    0,
+    0,
+    0,
+    3,
+    0,
+    0,
+    0,
+    50,
+    0,
+    0,
+    0,
+    0,
+    0,
+    0,
+    0,
+    13,
+    0,
+    0,
+    0,
+    2,
+    0,
+    0,
+    0,
+    100,
+    0,
+    0,
+    0,
+    0,
+    0,
+    0,
+    0,
+    14,
+    0,
+    0,
+    0,
+    4,
+    0,
+    0,
+    0,
+    200,
+    0,
+    0,
+    0,
+    0,
+    0,
+    0,
+    0,
+];
+
+const FIGURE_3: [u8; 64] = [
+    0,
+    0,
+    0,
+    0,
+    7,
+    0,
+    0,
+    0,
+    10,
+    0,
+    0,
+    0,
+    0,
+    0,
+    0,
+    0,
+    1,
+    0,
+    0,
+    0,
+    1,
+    0,
+    0,
+    0,
+    10,
+    0,
+    0,
+    0,
+    0,
+    0,
+    0,
+    0,
+    2,
+    0,
+    0,
+    0,
+    1,
+    0,
+    0,
+    0,
+    15,
+    0,
+    0,
+    0,
+    0,
+    0,
+    0,
+    0,
+    3,
+    0,
+    0,
+    0,
+    2,
+    0,
+    0,
+    0,
+    26,
+    0,
+    0,
+    0,
+    0,
+    0,
+    0,
+    0,
+];
 
 fn main() {
     starts();
@@ -152,41 +299,92 @@ fn tables() {
     tried(b"S = H", slept(s, record(z.label, 20, 20, 0)));
     tried(b"H = 60,001", slept(s, record(z.label, 8, 60001, 0)));
     tried(b"sleep reserved 1", slept(s, record(z.label, 8, 20, 1)));
-    tried(b"another label in the sleep record", slept(s, record(99, 8, 20, 0)));
-    tried(b"H = 7: period 1 no multiple", slept(s, record(z.label, 2, 7, 0)));
+    tried(
+        b"another label in the sleep record",
+        slept(s, record(99, 8, 20, 0)),
+    );
+    tried(
+        b"H = 7: period 1 no multiple",
+        slept(s, record(z.label, 2, 7, 0)),
+    );
     tried(b"C = 0 in task 4", tasked(s, 3, record(14, 0, 200, 0)));
-    tried(b"C above T in task 4", tasked(s, 3, record(14, 201, 200, 0)));
-    tried(b"T = 60,001 in task 4", tasked(s, 3, record(14, 4, 60001, 0)));
+    tried(
+        b"C above T in task 4",
+        tasked(s, 3, record(14, 201, 200, 0)),
+    );
+    tried(
+        b"T = 60,001 in task 4",
+        tasked(s, 3, record(14, 4, 60001, 0)),
+    );
     tried(b"reserved 1 in task 4", tasked(s, 3, record(14, 4, 200, 1)));
-    tried(b"period of task 4 below task 3's", tasked(s, 3, record(14, 4, 99, 0)));
-    tried(b"period of task 4 equal to task 3's", tasked(s, 3, record(14, 4, 100, 0)));
+    tried(
+        b"period of task 4 below task 3's",
+        tasked(s, 3, record(14, 4, 99, 0)),
+    );
+    tried(
+        b"period of task 4 equal to task 3's",
+        tasked(s, 3, record(14, 4, 100, 0)),
+    );
 }
 
 // States that break the rules of jobs and last releases.
 fn entries() {
     let s = house_at(30);
-    tried(b"task 1 last released after the clock", lasted(s, 0, Last::At(40)));
-    tried(b"task 1 last released off a boundary", lasted(s, 0, Last::At(21)));
+    tried(
+        b"task 1 last released after the clock",
+        lasted(s, 0, Last::At(40)),
+    );
+    tried(
+        b"task 1 last released off a boundary",
+        lasted(s, 0, Last::At(21)),
+    );
     tried(b"task 1 last released at 0", lasted(s, 0, Last::At(0)));
-    tried(b"task 2 at work since after the clock", worked(s, 1, 31, 1, Last::At(31)));
-    tried(b"task 2 at work since now", worked(s, 1, 30, 1, Last::At(30)));
+    tried(
+        b"task 2 at work since after the clock",
+        worked(s, 1, 31, 1, Last::At(31)),
+    );
+    tried(
+        b"task 2 at work since now",
+        worked(s, 1, 30, 1, Last::At(30)),
+    );
     tried(b"task 2 with nothing left", worked(s, 1, 1, 0, Last::At(1)));
     tried(b"task 2 with C left", worked(s, 1, 1, 3, Last::At(1)));
     tried(b"task 2 with C + 1 left", worked(s, 1, 1, 4, Last::At(1)));
-    tried(b"task 2 released at 1, last release 2", worked(s, 1, 1, 2, Last::At(2)));
-    tried(b"task 2 at work and never released", worked(s, 1, 1, 2, Last::Never));
-    tried(b"task 4 rests, last released after the clock", lasted(s, 3, Last::At(31)));
-    tried(b"task 4 rests and was never released", lasted(s, 3, Last::Never));
+    tried(
+        b"task 2 released at 1, last release 2",
+        worked(s, 1, 1, 2, Last::At(2)),
+    );
+    tried(
+        b"task 2 at work and never released",
+        worked(s, 1, 1, 2, Last::Never),
+    );
+    tried(
+        b"task 4 rests, last released after the clock",
+        lasted(s, 3, Last::At(31)),
+    );
+    tried(
+        b"task 4 rests and was never released",
+        lasted(s, 3, Last::Never),
+    );
 }
 
 // Spare places that are not zero, at rest and never released.
 fn spares() {
     let s = house_at(30);
     let nothing = record(0, 0, 0, 0);
-    tried(b"a spare place with a label", tasked(s, 15, record(1, 0, 0, 0)));
+    tried(
+        b"a spare place with a label",
+        tasked(s, 15, record(1, 0, 0, 0)),
+    );
     tried(b"a spare place with work", tasked(s, 4, record(0, 1, 0, 0)));
-    tried(b"a spare place with a period", tasked(s, 4, record(0, 0, 1, 0)));
-    tried(b"a spare place with a reserved field", tasked(s, 4, record(0, 0, 0, 1)));
+    tried(
+        b"a spare place with a period",
+        tasked(s, 4, record(0, 0, 1, 0)),
+    );
+    tried(
+        b"a spare place with a reserved field",
+        tasked(s, 4, record(0, 0, 0, 1)),
+    );
     tried(b"a spare place released at 0", lasted(s, 4, Last::At(0)));
     tried(b"a spare place at work", worked(s, 15, 0, 1, Last::At(0)));
     tried(b"spare places as they should be", tasked(s, 15, nothing));
@@ -463,7 +661,10 @@ fn entered(x: u64, e: Entry) -> u64 {
 }
 
 fn recorded(x: u64, r: Record) -> u64 {
-    mixed(mixed(mixed(mixed(x, r.label), r.work), r.period), r.reserved)
+    mixed(
+        mixed(mixed(mixed(x, r.label), r.work), r.period),
+        r.reserved,
+    )
 }
 
 fn mixed(x: u64, y: u32) -> u64 {
