@@ -25,9 +25,9 @@ pub enum Answer {
 // tasks before the failing one have theirs; places that nothing fills are zero.
 pub struct Verdict {
     pub answer: Answer,
-    pub windows: [u32; 16],
-    pub figures: [u32; 16],
-    pub rounds: [u32; 16],
+    pub windows: [u32; PLACES],
+    pub figures: [u32; PLACES],
+    pub rounds: [u32; PLACES],
 }
 
 // The verdict on any bytes: refusals 1 to 5, or admitted with the number of tasks.
@@ -39,9 +39,9 @@ pub fn admit(table: &[u8]) -> Verdict
         Reading::Sound { tasks } => walk(table, tasks),
         Reading::Refused(refusal) => Verdict {
             answer: Answer::Refused(refusal),
-            windows: [0u32; 16],
-            figures: [0u32; 16],
-            rounds: [0u32; 16],
+            windows: [0u32; PLACES],
+            figures: [0u32; PLACES],
+            rounds: [0u32; PLACES],
         },
     }
 }
@@ -51,9 +51,9 @@ fn walk(table: &[u8], n: u32) -> Verdict
     requires { ⌜ readOf (now table) ≡ Sound n ⌝ }
     ensures { λ r. ⌜ r ≡ walkFrom (rulesOf (now (table .entry))) n 0 zeros zeros zeros ⌝ }
 {
-    let mut windows = [0u32; 16];
-    let mut figures = [0u32; 16];
-    let mut rounds = [0u32; 16];
+    let mut windows = [0u32; PLACES];
+    let mut figures = [0u32; PLACES];
+    let mut rounds = [0u32; PLACES];
     let mut answer = Answer::Admitted { tasks: n };
     let sleep = record_at(table, 0);
     let mut i: u32 = 0;

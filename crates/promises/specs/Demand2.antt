@@ -28,7 +28,7 @@ use Rattle.scheduler.specs.States.{clockEnd, stateFits, tallyFits}
 use Rattle.scheduler.specs.Lawful.{Lawful-state}
 use Rattle.scheduler.specs.Starts.{freshState}
 use Rattle.scheduler.specs.Steps.{mayRun, tickOf, made, stepOf}
-use Rattle.scheduler.specs.History.{Call, after, begun, leftIn}
+use Rattle.scheduler.specs.History.{Call, after, begun, history, leftIn}
 use Rattle.scheduler.proofs.CallLaws.{step-made}
 use Rattle.scheduler.proofs.HistoryLaws.{history-kept, accounts}
 use Rattle.scheduler.proofs.HistoryLaws as laws-of-history
@@ -69,27 +69,23 @@ each-tick = step-made
 pub may-run-from : (h clock a l : ℕ) → (mayRun h clock (Working a l) ≡ true) ↔ (ready h a ≤ clock)
 may-run-from h clock a l = (leb-true (ready h a) clock, le-leb (ready h a) clock)
 
--- THE COUNTS, over every list of calls from a fresh start of a sound table, a tally of zeros lent first and the same one
--- to each step: run, slot and tail ticks sum to the clock
+-- THE COUNTS, over every list of calls from the start of a sound table, a tally of zeros lent first and the same one to
+-- each step: run, slot and tail ticks sum to the clock
 pub ticks-sum-to-the-clock : (table : List ℕ) (n : ℕ) (calls : List Call) → readOf table ≡ read.Sound n
-    → after (begun (freshState table n)) calls .tally .run + after (begun (freshState table n)) calls .tally .slot
-    + after (begun (freshState table n)) calls .tally .tail ≡ after (begun (freshState table n)) calls .state .clock
-ticks-sum-to-the-clock table n calls e = history-kept table n calls e .counted
+    → history table calls .tally .run + history table calls .tally .slot + history table calls .tally .tail ≡ history table calls .state .clock
+ticks-sum-to-the-clock table n calls e = rw e (history-kept table n calls e .counted)
 
 -- run ticks plus all work left equals the sum of the accepted demands
 pub run-and-left-are-demanded : (table : List ℕ) (n : ℕ) (calls : List Call) → readOf table ≡ read.Sound n
-    → after (begun (freshState table n)) calls .tally .run + sumTo places (leftIn (after (begun (freshState table n)) calls .state))
-    ≡ sumTo places (after (begun (freshState table n)) calls .demands)
-run-and-left-are-demanded table n calls e = accounts (after (begun (freshState table n)) calls) (history-kept table n calls e)
+    → history table calls .tally .run + sumTo places (leftIn (history table calls .state)) ≡ sumTo places (history table calls .demands)
+run-and-left-are-demanded table n calls e = rw e (accounts (after (begun (freshState table n)) calls) (history-kept table n calls e))
 
 -- and so for each task by itself
 pub task-by-task : (table : List ℕ) (n : ℕ) (calls : List Call) (i : ℕ) → readOf table ≡ read.Sound n → i < places
-    → after (begun (freshState table n)) calls .runs i + leftIn (after (begun (freshState table n)) calls .state) i
-    ≡ after (begun (freshState table n)) calls .demands i
-task-by-task table n calls i e l = history-kept table n calls e .each i l
+    → history table calls .runs i + leftIn (history table calls .state) i ≡ history table calls .demands i
+task-by-task table n calls i e l = rw e (history-kept table n calls e .each i l)
 
 -- no state that such calls reach is refused with 6, nor is its tally
 pub never-6 : (table : List ℕ) (n : ℕ) (calls : List Call) → readOf table ≡ read.Sound n
-    → (stateFits (after (begun (freshState table n)) calls .state) ≡ true)
-    × (tallyFits (after (begun (freshState table n)) calls .tally) (after (begun (freshState table n)) calls .state .clock) ≡ true)
-never-6 table n calls e = laws-of-history.never-6 (after (begun (freshState table n)) calls) (history-kept table n calls e)
+    → (stateFits (history table calls .state) ≡ true) × (tallyFits (history table calls .tally) (history table calls .state .clock) ≡ true)
+never-6 table n calls e = rw e (laws-of-history.never-6 (after (begun (freshState table n)) calls) (history-kept table n calls e))

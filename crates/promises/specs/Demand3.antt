@@ -29,16 +29,11 @@ use Rattle.scheduler.specs.declared.Job.the-variants.{Resting, Working}
 use Rattle.scheduler.specs.declared.Tick.the-variants.{Run, Tail}
 use Rattle.scheduler.specs.declared.Ticked.the-variants as ticked
 use Rattle.scheduler.specs.States.{clockEnd, entryIn}
-use Rattle.scheduler.specs.Starts.{startOf}
 use Rattle.scheduler.specs.Steps.{stepOf}
-use Rattle.scheduler.specs.History.{Call, step, Past, next, after, begun}
+use Rattle.scheduler.specs.History.{Call, step, Past, next, after, history}
 use Rattle.scheduler.specs.Pattern.{worstPattern}
 use Rattle.bridge.specs.Bounds as bounds
 use Rattle.bridge.specs.Reached as reached
-
--- what a list of calls makes of a table's start, a tally of zeros lent first
-abbrev pub history : List ℕ → List Call → Past
-history table calls = after (begun (startOf table .state)) calls
 
 -- the response figure that the verdict reports for the task at place i
 abbrev pub figureOf : List ℕ → ℕ → ℕ

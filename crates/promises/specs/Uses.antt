@@ -25,12 +25,12 @@ use Rattle.scheduler.specs.declared.Tick.the-variants.{Run, Tail}
 use Rattle.scheduler.specs.declared.Ticked.the-variants as ticked
 use Rattle.scheduler.specs.States.{clockEnd, entryIn, every, recordIn, periodBefore, stateFits, entriesOf}
 use Rattle.scheduler.specs.Steps.{stepOf}
-use Rattle.scheduler.specs.History.{Call, step, next, after}
+use Rattle.scheduler.specs.History.{Call, step, next, after, history}
 use Rattle.scheduler.specs.Pattern.{worstPattern}
 use Rattle.bridge.specs.Runs.{rules-sound}
 use Rattle.promises.specs.Cases.{_per_, bytesOf}
 use Rattle.promises.specs.Demand2.{admitted-exactly, refused-exactly}
-use Rattle.promises.specs.Demand3.{history, figureOf, one-window-is-enough, no-job-is-late, finishes-within, pattern-is-accepted, figure-is-reached, figure-is-enough, failing-task-is-late, tail-rests}
+use Rattle.promises.specs.Demand3.{figureOf, one-window-is-enough, no-job-is-late, finishes-within, pattern-is-accepted, figure-is-reached, figure-is-enough, failing-task-is-late, tail-rests}
 
 -- the house table, and the source's Figure 1 set (case E)
 pub house : List ℕ

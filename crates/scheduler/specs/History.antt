@@ -15,6 +15,7 @@ use Rattle.scheduler.specs.declared.Ticked.the-variants as ticked
 use Rattle.scheduler.specs.declared.Answer.{Answer}
 use Rattle.scheduler.specs.declared.Answer.the-variants.{Accepted, Refused}
 use Rattle.scheduler.specs.States.{entryIn}
+use Rattle.scheduler.specs.Starts.{startOf}
 use Rattle.scheduler.specs.Releases.{releaseOf}
 use Rattle.scheduler.specs.Steps.{stepOf}
 
@@ -82,6 +83,10 @@ after p (call ∷ calls) = after (next p call) calls
 -- a state before any call, a tally of zeros beside it
 abbrev pub begun : State → Past
 begun s = record { state = s; tally = record { run = 0; slot = 0; tail = 0 }; demands = λ i. 0; runs = λ i. 0; refusals = 0 }
+
+-- what a list of calls makes of a table's start
+abbrev pub history : List ℕ → List Call → Past
+history table calls = after (begun (startOf table .state)) calls
 
 -- the work left of a job
 abbrev pub workLeft : Job → ℕ

@@ -11,6 +11,8 @@ ghost use Rattle.scheduler.specs.Starts.{startOf};
 ghost use Rattle.scheduler.specs.Releases.{working, early, offBoundary, from11, releaseAnswer, releaseOf};
 ghost use Rattle.scheduler.specs.Steps.{came, workedOf, tickOf, made, stepOf, Ready};
 ghost use Rattle.scheduler.specs.Energies.{energyOf};
+use table::MOST_TASKS;
+use table::PLACES;
 use table::Reading;
 use table::Record;
 use table::Refusal;
@@ -48,7 +50,7 @@ pub struct State {
     pub sleep: Record,
     pub n: u32,
     pub clock: u32,
-    pub entries: [Entry; 16],
+    pub entries: [Entry; PLACES],
 }
 
 // The ticks of a run by kind. They sum to the clock.
@@ -128,7 +130,7 @@ pub fn start(table: &[u8]) -> Started
                 sleep: no_record(),
                 n: 0,
                 clock: 0,
-                entries: [spare(); 16],
+                entries: [spare(); PLACES],
             };
             Started {
                 answer: Answer::Refused(refusal),
@@ -248,11 +250,11 @@ pub fn energy(tally: Tally, run: u32, sleep: u32) -> EnergyReading
 }
 
 // The entries of a table's n tasks, resting and never released, and spare places.
-fn fresh(table: &[u8], n: u32) -> [Entry; 16]
+fn fresh(table: &[u8], n: u32) -> [Entry; PLACES]
     requires { ⌜ n ≤ 16 ⌝ }
     ensures { λ r. ⌜ r ≡ entriesOf (now (table .entry)) n ⌝ }
 {
-    let mut entries = [spare(); 16];
+    let mut entries = [spare(); PLACES];
     let mut i: usize = 0;
     while i < n as usize {
         let task = record_at(table, i + 1);
@@ -299,7 +301,7 @@ fn fits(state: State) -> bool
     if n < 1 {
         return false;
     }
-    if 16 < n {
+    if MOST_TASKS < n {
         return false;
     }
     if CLOCK_END < clock {
@@ -318,13 +320,13 @@ fn fits(state: State) -> bool
 }
 
 // Whether every place, a task's or a spare one, keeps its rules.
-fn places_fit(entries: [Entry; 16], n: u32, h: u32, clock: u32) -> bool
+fn places_fit(entries: [Entry; PLACES], n: u32, h: u32, clock: u32) -> bool
     requires { ⌜ 1 ≤ h ⌝ }
     ensures { λ r. ⌜ r ≡ placesFit entries n h clock ⌝ }
 {
     let mut above: u32 = 0;
     let mut i: u32 = 0;
-    while i < 16 {
+    while i < MOST_TASKS {
         let e = entries[i as usize];
         if !place_fits(e, n, i, above, h, clock) {
             return false;
@@ -581,7 +583,7 @@ fn tick_on(state: State, tally: Tally) -> Moved
 }
 
 // The first of the n tasks whose job was released at or before the boundary, or n.
-fn first_ready(entries: [Entry; 16], n: u32, boundary: u32) -> u32
+fn first_ready(entries: [Entry; PLACES], n: u32, boundary: u32) -> u32
     requires { ⌜ n ≤ 16 ⌝ }
     ensures { λ r. ⌜ r ≡ firstFrom (λ i. came boundary (getD entries i noEntry .job)) n 0 ⌝ }
 {

@@ -10,10 +10,13 @@ use table::Record;
 use table::record_at;
 use table::tell;
 
+// The bytes of a page.
+pub const ROOM: usize = 2048;
+
 // A page of text: its bytes and how many of them are written. A byte behind the last place is lost;
 // no listing is that long (proofs/ListingLaws.antt).
 pub struct Page {
-    pub text: [u8; 2048],
+    pub text: [u8; ROOM],
     pub len: usize,
 }
 
@@ -59,7 +62,7 @@ fn titled() -> Page
     ensures { λ r. ⌜ r ≡ shown blank header ⌝ }
 {
     let page = Page {
-        text: [0u8; 2048],
+        text: [0u8; ROOM],
         len: 0,
     };
     written(page, b"task label work period window response rounds\n")
@@ -135,7 +138,7 @@ fn byte(page: Page, b: u8) -> Page
     ensures { λ r. ⌜ r ≡ put page b ⌝ }
 {
     let at = page.len;
-    if at < 2048 {
+    if at < ROOM {
         let mut next = page;
         next.text[at] = b;
         next.len = at + 1;

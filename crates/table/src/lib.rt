@@ -8,10 +8,11 @@ ghost use Rattle.table.specs.Refusals.{toldOf};
 ghost use Rattle.table.specs.Bytes.{wordAt, recordAt, recordsIn};
 ghost use Rattle.table.specs.Sound.{lawful, harmonized, firstBroken, firstFalling, readOf};
 
-// The bytes of a record, the places for tasks, and the largest period.
+// The bytes of a record, the places for tasks (a table has no more tasks), and the largest period.
 pub const RECORD_BYTES: usize = 16;
 
 pub const PLACES: usize = 16;
+pub const MOST_TASKS: u32 = 16;
 
 pub const LARGEST: u32 = 60000;
 
