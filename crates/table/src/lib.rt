@@ -12,6 +12,7 @@ ghost use Rattle.table.specs.Sound.{lawful, harmonized, firstBroken, fir
 pub const RECORD_BYTES: usize = 16;
 
 pub const PLACES: usize = 16;
+
 pub const MOST_TASKS: u32 = 16;
 
 pub const LARGEST: u32 = 60000;
