@@ -22,7 +22,7 @@ use Rattle.scheduler.specs.declared.Job.{Job}
 use Rattle.scheduler.specs.declared.Job.the-variants.{Resting, Working}
 use Rattle.scheduler.specs.States.{clockEnd, entryIn}
 use Rattle.scheduler.specs.Starts.{freshState}
-use Rattle.scheduler.specs.History.{Past, after, begun}
+use Rattle.scheduler.specs.History.{Past, after, begun, At-work}
 use Rattle.scheduler.specs.Pattern.{worstPattern}
 use Rattle.bridge.specs.Views.{jobView, viewOf, job-back, last-back}
 use Rattle.bridge.specs.Runs.{rules-sound}
@@ -76,13 +76,19 @@ module _ (table : List ℕ) (n : ℕ) (e : readOf table ≡ read.Sound n) where
   -- figure is over
   pub works-until : (m i w t : ℕ) (W : (k : ℕ) → k ≤ m → (x : ℕ) × Window R k (limit R k) x) → m < n → i ≤ m → Window R i (limit R i) w
       → offset R i < t → t < offset R i + figure R i w
-      → (l : ℕ) × (1 ≤ l) × (entryIn (patterned table n (suc m) t .state) i .job ≡ Working (offset R i) l)
+      → At-work (patterned table n (suc m) t) i (offset R i) t
   works-until m i w t Ws lm li W behind early =
       let I = pattern-runs table n e m lm t (omega (arith, small i, W .within, offset-wait i)) (λ s k ls lk. windowed-free k (Ws k lk .0) s (omega arith) (Ws k lk .1)) in
       let v = viewOf (patterned table n (suc m) t .state) in
       let r = reached-before R (offset R) i w v ok (offsets table n e m lm) (fewer R (offset R) m i v li (I .pattern))
       (W .least) (omega (arith, I .clock-is)) (omega (arith, I .clock-is, offset-wait i)) in
-      (r .0, r .1, job-back (entryIn (patterned table n (suc m) t .state) i .job) (offset R i) (r .0) (r .2))
+      record {
+        none-refused = I .accepted;
+        clock-is = I .clock-is;
+        left = r .0;
+        some = r .1;
+        working = job-back (entryIn (patterned table n (suc m) t .state) i .job) (offset R i) (r .0) (r .2);
+      }
 
   -- and rests when it is
   pub rests-then : (m i w : ℕ) (W : (k : ℕ) → k ≤ m → (x : ℕ) × Window R k (limit R k) x) → m < n → i ≤ m → Window R i (limit R i) w
@@ -132,9 +138,14 @@ module _ (table : List ℕ) (n : ℕ) (e : readOf table ≡ read.Sound n) where
 
   -- A TASK WITHOUT A WINDOW, all before it having one, is at work on its first job at release + T
   pub late-then : (f k : ℕ) (W : (j : ℕ) → j < f → (x : ℕ) × Window R j (limit R j) x) → f < n → Passed R f (limit R f) k
-      → (patterned table n (suc f) (offset R f + R .T f) .refusals ≡ 0)
-      × ((l : ℕ) × (1 ≤ l) × (entryIn (patterned table n (suc f) (offset R f + R .T f) .state) f .job ≡ Working (offset R f) l))
-  late-then f k Ws lf P = (I .accepted, (r .0, r .1, job-back (entryIn (p .state) f .job) (offset R f) (r .0) (r .2)))
+      → At-work (patterned table n (suc f) (offset R f + R .T f)) f (offset R f) (offset R f + R .T f)
+  late-then f k Ws lf P = record {
+    none-refused = I .accepted;
+    clock-is = I .clock-is;
+    left = r .0;
+    some = r .1;
+    working = job-back (entryIn (p .state) f .job) (offset R f) (r .0) (r .2);
+  }
     where
       t : ℕ
       t = offset R f + R .T f
@@ -152,9 +163,10 @@ module _ (table : List ℕ) (n : ℕ) (e : readOf table ≡ read.Sound n) where
           (λ x lx fits. passed-none R f (limit R f) k ok P x (omega (arith, offset-wait f, wait-within f lf)) fits) (I .clock-is)
 
   -- EVERY CALL of the pattern up to the clock's end is accepted where every task has a window
-  pub all-accepted : (t : ℕ) (W : (j : ℕ) → j < n → (x : ℕ) × Window R j (limit R j) x) → t ≤ clockEnd → patterned table n n t .refusals ≡ 0
+  pub all-accepted : (t : ℕ) (W : (j : ℕ) → j < n → (x : ℕ) × Window R j (limit R j) x) → t ≤ clockEnd
+      → (patterned table n n t .refusals ≡ 0) × (patterned table n n t .state .clock ≡ t)
   all-accepted t Ws l =
       let some : 1 ≤ n = omega (arith, read-set table n e .set .some, read-set table n e .tasks) in
       let last : suc (n - 1) ≡ n = omega arith in
       let I = pattern-runs table n e (n - 1) (omega arith) t l (λ s k ls lk. windowed-free k (Ws k (omega arith) .0) s (omega arith) (Ws k (omega arith) .1)) in
-      rw last at (I .accepted)
+      (rw last at (I .accepted), rw last at (I .clock-is))

@@ -30,7 +30,7 @@ use Rattle.scheduler.specs.declared.Tick.the-variants.{Run, Tail}
 use Rattle.scheduler.specs.declared.Ticked.the-variants as ticked
 use Rattle.scheduler.specs.States.{clockEnd, entryIn}
 use Rattle.scheduler.specs.Steps.{stepOf}
-use Rattle.scheduler.specs.History.{Call, step, Past, next, after, history}
+use Rattle.scheduler.specs.History.{Call, step, Past, next, after, history, At-work}
 use Rattle.scheduler.specs.Pattern.{worstPattern}
 use Rattle.bridge.specs.Bounds as bounds
 use Rattle.bridge.specs.Reached as reached
@@ -89,9 +89,10 @@ pub finishes-within : (table : List ℕ) (n i a : ℕ) (calls : List Call) → a
     → history table calls .state .clock + 1 ≤ a + figureOf table i
 finishes-within table n i a calls ok li run j = omega (arith, no-job-is-late table n i a 1 calls ok li j)
 
--- THE WORST PATTERN IS ACCEPTED: on an admitted set no call of it is refused, up to the clock's end
+-- THE WORST PATTERN IS ACCEPTED: on an admitted set no call of it is refused, up to the clock's end, and so its calls up
+-- to t bring the clock to t
 pub pattern-is-accepted : (table : List ℕ) (n t : ℕ) → admitOf table .answer ≡ Admitted n → t ≤ clockEnd
-    → history table (worstPattern (rulesOf table) n t) .refusals ≡ 0
+    → (history table (worstPattern (rulesOf table) n t) .refusals ≡ 0) × (history table (worstPattern (rulesOf table) n t) .state .clock ≡ t)
 pattern-is-accepted table n t ok l =
     let A = admits table n ok in
     rw (A .sound) (reached.all-accepted table n (A .sound) t (λ j lj. (A .window j lj .0, A .window j lj .1)) l)
@@ -100,7 +101,7 @@ pattern-is-accepted table n t ok l =
 -- release and before release + figure,
 pub figure-is-reached : (table : List ℕ) (n i t : ℕ) → admitOf table .answer ≡ Admitted n → i < n → offset (rulesOf table) i < t
     → t < offset (rulesOf table) i + figureOf table i
-    → (l : ℕ) × (1 ≤ l) × (entryIn (history table (worstPattern (rulesOf table) n t) .state) i .job ≡ Working (offset (rulesOf table) i) l)
+    → At-work (history table (worstPattern (rulesOf table) n t)) i (offset (rulesOf table) i) t
 figure-is-reached table n i t ok li behind early =
     let A = admits table n ok in
     let W = A .window i li in
@@ -121,15 +122,11 @@ figure-is-enough table n i ok li =
 -- NOT ADMITTED, LATE: where a sound set gets 5 at the task at place f, the pattern given to the tasks up to it, none of
 -- its calls refused, leaves that task at work on its first job at release + T
 pub failing-task-is-late : (table : List ℕ) (n f k : ℕ) → readOf table ≡ read.Sound n → admitOf table .answer ≡ Refused (NoWindow (f + 1) k)
-    → (history table (worstPattern (rulesOf table) (f + 1) (offset (rulesOf table) f + rulesOf table .T f)) .refusals ≡ 0)
-    × ((l : ℕ) × (1 ≤ l)
-    × (entryIn (history table (worstPattern (rulesOf table) (f + 1) (offset (rulesOf table) f + rulesOf table .T f)) .state) f .job ≡ Working (offset (rulesOf table) f) l))
+    → At-work (history table (worstPattern (rulesOf table) (f + 1) (offset (rulesOf table) f + rulesOf table .T f))) f (offset (rulesOf table) f) (offset (rulesOf table) f + rulesOf table .T f)
 failing-task-is-late table n f k e a = by-verdict (admit-says table n e)
   where
     by-verdict : Judged (rulesOf table) n (admitOf table)
-        → (history table (worstPattern (rulesOf table) (f + 1) (offset (rulesOf table) f + rulesOf table .T f)) .refusals ≡ 0)
-        × ((l : ℕ) × (1 ≤ l)
-        × (entryIn (history table (worstPattern (rulesOf table) (f + 1) (offset (rulesOf table) f + rulesOf table .T f)) .state) f .job ≡ Working (offset (rulesOf table) f) l))
+        → At-work (history table (worstPattern (rulesOf table) (f + 1) (offset (rulesOf table) f + rulesOf table .T f))) f (offset (rulesOf table) f) (offset (rulesOf table) f + rulesOf table .T f)
     by-verdict (admitted b A) =
         let w : Admitted n ≡ Refused (NoWindow (f + 1) k) = sym b ∙ a in
         let z : _≡_ {A = ℕ} 0 1 = cc in absurd (let y : ⊥ = omega arith in y)
@@ -139,10 +136,8 @@ failing-task-is-late table n f k e a = by-verdict (admit-says table n e)
         let same : g ≡ f = omega arith in
         let one : suc f ≡ f + 1 = omega arith in
         let t : ℕ = offset (rulesOf table) f + rulesOf table .T f in
-        let late : (reached.patterned table n (f + 1) t .refusals ≡ 0)
-        × ((x : ℕ) × (1 ≤ x) × (entryIn (reached.patterned table n (f + 1) t .state) f .job ≡ Working (offset (rulesOf table) f) x)) =
-        subst (λ (c : ℕ). (reached.patterned table n c t .refusals ≡ 0)
-        × ((x : ℕ) × (1 ≤ x) × (entryIn (reached.patterned table n c t .state) f .job ≡ Working (offset (rulesOf table) f) x))) one
+        let late : At-work (reached.patterned table n (f + 1) t) f (offset (rulesOf table) f) t =
+        subst (λ (c : ℕ). At-work (reached.patterned table n c t) f (offset (rulesOf table) f) t) one
         (reached.late-then table n e f m (λ j lj. (getD (admitOf table .windows) j 0, A .row j (omega arith) .window)) (omega arith) (rw same at P)) in
         rw e late
 

@@ -25,7 +25,7 @@ use Rattle.scheduler.specs.declared.Tick.the-variants.{Run, Tail}
 use Rattle.scheduler.specs.declared.Ticked.the-variants as ticked
 use Rattle.scheduler.specs.States.{clockEnd, entryIn, every, recordIn, periodBefore, stateFits, entriesOf}
 use Rattle.scheduler.specs.Steps.{stepOf}
-use Rattle.scheduler.specs.History.{Call, step, next, after, history}
+use Rattle.scheduler.specs.History.{Call, step, next, after, history, At-work}
 use Rattle.scheduler.specs.Pattern.{worstPattern}
 use Rattle.bridge.specs.Runs.{rules-sound}
 use Rattle.promises.specs.Cases.{_per_, bytesOf}
@@ -90,11 +90,12 @@ figure-1-first-task a l calls j =
     omega (arith, one-window-is-enough figure-1 3 0 6 a l calls figure-1-sound W j)
 
 -- the worst pattern on the house table, up to the clock's end
-house-pattern : history house (worstPattern (rulesOf house) 4 1000000000) .refusals ≡ 0
+house-pattern : (history house (worstPattern (rulesOf house) 4 1000000000) .refusals ≡ 0)
+    × (history house (worstPattern (rulesOf house) 4 1000000000) .state .clock ≡ 1000000000)
 house-pattern = pattern-is-accepted house 4 1000000000 house-admitted (omega arith)
 
 -- the first job of task 4 comes at 1, is at work at 38 and at rest at 39: it took its figure, 38
-house-figure-reached : (l : ℕ) × (1 ≤ l) × (entryIn (history house (worstPattern (rulesOf house) 4 38) .state) 3 .job ≡ Working 1 l)
+house-figure-reached : At-work (history house (worstPattern (rulesOf house) 4 38)) 3 1 38
 house-figure-reached =
     let f = house-figures in
     rw (f .2) at (figure-is-reached house 4 3 38 house-admitted (omega arith) (omega arith) (omega arith))
@@ -103,9 +104,9 @@ house-figure-enough : entryIn (history house (worstPattern (rulesOf house) 4 39)
 house-figure-enough = rw (house-figures .1, house-figures .2) at (figure-is-enough house 4 3 house-admitted (omega arith))
 
 -- on Figure 1 the pattern, given to tasks 1 and 2, leaves task 2 at work at 16, its period behind its release at 1
-figure-1-late : (l : ℕ) × (1 ≤ l) × (entryIn (history figure-1 (worstPattern (rulesOf figure-1) 2 16) .state) 1 .job ≡ Working 1 l)
+figure-1-late : At-work (history figure-1 (worstPattern (rulesOf figure-1) 2 16)) 1 1 16
 unfolding figure-1 bytesOf wordAt recordAt offset
-figure-1-late = failing-task-is-late figure-1 3 1 1 figure-1-sound figure-1-refused .1
+figure-1-late = failing-task-is-late figure-1 3 1 1 figure-1-sound figure-1-refused
 
 -- with nothing released, tick 8 of the house table is a tail tick
 eight : List Call

@@ -1,6 +1,7 @@
 -- Histories: lists of calls on a node, refused ones among them, and what they make of a start. The same tally is lent to
 -- each step, a tally of zeros first.
-use Prim.Native.Nat.{ℕ, _+_, _-_}
+use Prim.Native.Nat.{ℕ, _+_, _-_, _≤_}
+use mathlib.Core.Path.{_≡_}
 use mathlib.Core.List.{List, [], _∷_}
 use mathlib.Core.Bool.{cond}
 use lib.Dec.{eqb}
@@ -96,3 +97,11 @@ workLeft (Working a l) = l
 -- the work left at a place
 abbrev pub leftIn : State → ℕ → ℕ
 leftIn s i = workLeft (entryIn s i .job)
+
+-- after calls none of which was refused, at clock t, the task at place i is at work on a job released at a
+pub record At-work (p : Past) (i a t : ℕ) : Type 0 where
+  pub none-refused : p .refusals ≡ 0
+  pub clock-is : p .state .clock ≡ t
+  pub left : ℕ
+  pub some : 1 ≤ left
+  pub working : entryIn (p .state) i .job ≡ Working a left
