@@ -48,7 +48,7 @@ fn sets() {
         drafted(&[1, 4, 1, 4, 1, 7, 2, 11]),
     );
     show(
-        b"a wait one tick shorter would pass: 1 in 4, 1 in 5\n",
+        b"1 in 4, 1 in 5: with a wait one tick shorter the figure would be 4\n",
         drafted(&[1, 2, 1, 4, 1, 5]),
     );
 }

@@ -1,10 +1,11 @@
 -- Demand 1, in the user's words: "Any table, state, tally or release may be handed to it. Nothing is undefined, every
 -- call ends, and bad input is refused by number with the state and every lent record unchanged."
 --
--- That nothing is undefined and every call ends is what the proof of each function says: none has a `requires`. Here
+-- That nothing is undefined and every call ends is what the proof of each function says: no public one has a `requires`. Here
 -- stands what a refusal is: its number, and what comes back with it.
-use Prim.Native.Nat.{ℕ, _≤_}
+use Prim.Native.Nat.{ℕ, _+_, _≤_, _<_}
 use mathlib.Core.Path.{_≡_, refl}
+use mathlib.Core.Logic.{_↔_, _⊎_}
 use mathlib.Core.List.{List}
 use Rattle.table.specs.declared.Refusal.{Refusal}
 use Rattle.table.specs.declared.Refusal.the-variants as refusal
@@ -16,6 +17,7 @@ use Rattle.scheduler.specs.declared.State.{State}
 use Rattle.scheduler.specs.declared.Tally.{Tally}
 use Rattle.scheduler.specs.declared.Ticked.the-variants as ticked
 use Rattle.scheduler.specs.declared.Answer.the-variants.{Refused}
+use Rattle.scheduler.specs.States.{clockEnd}
 use Rattle.scheduler.specs.Starts.{noState, startOf}
 use Rattle.scheduler.specs.Releases.{releaseOf}
 use Rattle.scheduler.specs.Steps.{stepOf}
@@ -51,6 +53,10 @@ pub no-state-gets-6 : (task demand : ℕ) (t : Tally)
     × (toldOf refusal.Rules .number ≡ 6)
 no-state-gets-6 task demand t = let f = calls.no-state-refused task demand t in (f .0, f .1, refl)
 
--- a refused energy reading is 0
-pub energy-zero : (t : Tally) (run sleep : ℕ) (r : Refusal) → energyOf t run sleep .answer ≡ Refused r → energyOf t run sleep .nanojoules ≡ 0
-energy-zero = numbers.energy-refused
+-- a refused energy reading is 0; its number is 6 or 13, and 6 exactly where the counts sum to more than 1,000,000,000
+pub energy-zero : (t : Tally) (run sleep : ℕ) (r : Refusal) → energyOf t run sleep .answer ≡ Refused r
+    → (energyOf t run sleep .nanojoules ≡ 0) × ((toldOf r .number ≡ 6) ⊎ (toldOf r .number ≡ 13))
+energy-zero t run sleep r e = numbers.energy-refused t run sleep r e
+
+pub energy-six : (t : Tally) (run sleep : ℕ) → (energyOf t run sleep .answer ≡ Refused refusal.Rules) ↔ (clockEnd < t .run + t .slot + t .tail)
+energy-six = numbers.energy-six

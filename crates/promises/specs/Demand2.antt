@@ -1,24 +1,27 @@
 -- Demand 2, in the user's words: "Each tick runs, sleeps or waits exactly as Energy-Saving Rate-Harmonized Scheduling
--- says, in whole ticks as document 01 states it. A sound set is admitted exactly when every task has a window, within its
+-- (RTSS 2008) says, in whole ticks as document 01 states it. A sound set is admitted exactly when every task has a window, within its
 -- limit, that holds its demand; the figures and counts reported are the defined ones." The theorems speak of `admitOf`
 -- and `stepOf`, which the contracts of `admission::admit` and `scheduler::step` give as their whole results.
 use Prim.Native.Nat.{ℕ, _+_, _≤_, _<_}
-use mathlib.Core.Path.{_≡_}
-use mathlib.Core.Logic.{_↔_}
+use mathlib.Core.Path.{_≡_, refl, ap, sym, _∙_}
+use mathlib.Core.Logic.{_↔_, _⊎_, inl, inr}
 use mathlib.Core.List.{List}
 use mathlib.Core.Bool.{true}
+use native.Mathlib.Omega.{arith}
 use borrow.Author.Tests.{leb-true, le-leb}
 use Rattle.theory.specs.Sum.{sumTo}
 use Rattle.theory.specs.System.{ready}
 use Rattle.table.specs.declared.Refusal.{Refusal}
 use Rattle.table.specs.declared.Refusal.the-variants.{NoWindow}
+use Rattle.table.specs.declared.Reading.{Reading}
 use Rattle.table.specs.declared.Reading.the-variants as read
+use Rattle.table.specs.Refusals.{toldOf}
 use Rattle.table.specs.Sound.{places, readOf}
 use Rattle.table.specs.Rules.{Sound-table}
 use Rattle.table.specs.Set.{rulesOf}
-use Rattle.table.proofs.SoundLaws.{read-sound, sound-read}
+use Rattle.table.proofs.SoundLaws.{read-sound, sound-read, read-numbers}
 use Rattle.admission.specs.declared.Answer.the-variants.{Admitted, Refused}
-use Rattle.admission.specs.Says.{Has-window, Judged}
+use Rattle.admission.specs.Says.{Has-window, Judged, admitted, refused}
 use Rattle.admission.specs.Verdicts.{verdict, zeros, admitOf}
 use Rattle.admission.proofs.AdmitLaws as laws
 use Rattle.scheduler.specs.declared.Job.the-variants.{Working}
@@ -52,6 +55,31 @@ refused-exactly = laws.refused-exactly
 -- what no task fills is zero (`Judged`, `Rows` and `Row` say so)
 pub figures-are-the-defined-ones : (bytes : List ℕ) (n : ℕ) → readOf bytes ≡ read.Sound n → Judged (rulesOf bytes) n (admitOf bytes)
 figures-are-the-defined-ones = laws.admit-says
+
+-- a refused admission gives 5 where the table is sound, else the number of its reading, 1 to 4
+pub refusal-numbers : (bytes : List ℕ) (r : Refusal) → admitOf bytes .answer ≡ Refused r
+    → ((n : ℕ) × (readOf bytes ≡ read.Sound n) × (toldOf r .number ≡ 5))
+    ⊎ ((readOf bytes ≡ read.Refused r) × (1 ≤ toldOf r .number) × (toldOf r .number ≤ 4))
+refusal-numbers bytes r a = go (readOf bytes) refl
+  where
+    go : (x : Reading) → readOf bytes ≡ x
+        → ((n : ℕ) × (readOf bytes ≡ read.Sound n) × (toldOf r .number ≡ 5))
+        ⊎ ((readOf bytes ≡ read.Refused r) × (1 ≤ toldOf r .number) × (toldOf r .number ≤ 4))
+    go (read.Sound n) e = inl (n, e, five (laws.admit-says bytes n e))
+      where
+        five : Judged (rulesOf bytes) n (admitOf bytes) → toldOf r .number ≡ 5
+        five (admitted b A) =
+            let w : Admitted n ≡ Refused r = sym b ∙ a in
+            let z : _≡_ {A = ℕ} 0 1 = cc in absurd (let y : ⊥ = omega arith in y)
+        five (refused f k l b P A) =
+            let w : Refused (NoWindow (f + 1) k) ≡ Refused r = sym b ∙ a in
+            let same : NoWindow (f + 1) k ≡ r = cc in
+            rw (← same)
+    go (read.Refused q) e =
+        let w : Refused q ≡ Refused r = rw e at a in
+        let same : q ≡ r = cc in
+        let m = read-numbers bytes q e in
+        inr (e ∙ ap read.Refused same, rw (← same) (m .0), rw (← same) (m .1))
 
 -- a table that is not sound gets the refusal of its reading, 1 to 4, and zeros
 pub unsound-refused : (bytes : List ℕ) (refusal : Refusal) → readOf bytes ≡ read.Refused refusal

@@ -30,7 +30,7 @@ use Rattle.scheduler.specs.declared.Tick.the-variants.{Run, Tail}
 use Rattle.scheduler.specs.declared.Ticked.the-variants as ticked
 use Rattle.scheduler.specs.States.{clockEnd, entryIn}
 use Rattle.scheduler.specs.Steps.{stepOf}
-use Rattle.scheduler.specs.History.{Call, step, Past, next, after, history, At-work}
+use Rattle.scheduler.specs.History.{Call, step, next, after, history, At-work}
 use Rattle.scheduler.specs.Pattern.{worstPattern}
 use Rattle.bridge.specs.Bounds as bounds
 use Rattle.bridge.specs.Reached as reached

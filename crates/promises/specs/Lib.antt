@@ -6,7 +6,7 @@ pub mod Demand1
 pub mod Demand2
 -- demand 3: no job late, each figure reached, rest behind a tail tick
 pub mod Demand3
--- each theorem used on the house table or on a refused set
+-- the theorems on admission and of demand 3 used on the house table or on a refused set
 pub mod Uses
 -- any two results that a promise allows are equal
 pub mod Settled

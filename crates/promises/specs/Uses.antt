@@ -1,5 +1,5 @@
--- The theorems are not vacuous: each that has hypotheses, used on the house table or on a set that is refused.
-use Prim.Native.Nat.{ℕ, suc, _+_, _≤_, _<_}
+-- The theorems on admission and all of demand 3 are not vacuous: each used on the house table or on a set that is refused.
+use Prim.Native.Nat.{ℕ, _+_, _≤_, _<_}
 use mathlib.Core.Path.{_≡_, refl, ap}
 use mathlib.Core.List.{List, [], _∷_}
 use native.Mathlib.Omega.{arith}
@@ -16,14 +16,13 @@ use Rattle.table.specs.Bytes.{wordAt, recordAt}
 use Rattle.table.specs.Sound.{from2, from3, from4, readOf}
 use Rattle.table.specs.Set.{rulesOf}
 use Rattle.admission.specs.declared.Answer.the-variants.{Admitted, Refused}
-use Rattle.admission.specs.declared.Verdict.{Verdict}
 use Rattle.admission.specs.Figure.{waiting, limit}
 use Rattle.admission.specs.Says.{Has-window}
 use Rattle.admission.specs.Verdicts.{walkFrom, admitOf}
 use Rattle.scheduler.specs.declared.Job.the-variants.{Resting, Working}
 use Rattle.scheduler.specs.declared.Tick.the-variants.{Run, Tail}
 use Rattle.scheduler.specs.declared.Ticked.the-variants as ticked
-use Rattle.scheduler.specs.States.{clockEnd, entryIn, every, recordIn, periodBefore, stateFits, entriesOf}
+use Rattle.scheduler.specs.States.{entryIn, every, recordIn, periodBefore, stateFits, entriesOf}
 use Rattle.scheduler.specs.Steps.{stepOf}
 use Rattle.scheduler.specs.History.{Call, step, next, after, history, At-work}
 use Rattle.scheduler.specs.Pattern.{worstPattern}

@@ -1,4 +1,5 @@
-// The worst pattern for 2,000 ticks on document 01's sets: each task's figure and largest response.
+// The worst pattern for 2,000 ticks on most of document 01's sets and on three tasks that tell k times
+// H from w: each task's figure and largest response.
 // On a set that is refused with 5 the pattern is given to the tasks up to the failing one.
 use admission::Answer;
 use admission::admit;

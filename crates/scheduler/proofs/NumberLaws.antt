@@ -1,17 +1,17 @@
--- Which numbers each call can give: a start 1 to 4, a release 6 to 12, a step 6 and 7, an energy reading 6 and 13.
-use Prim.Native.Nat.{ℕ, _+_, _-_, _≤_}
+-- Which numbers each call can give: a release 6 to 12, a step 6 and 7, an energy reading 6 and 13. (A start gives those of
+-- its reading, 1 to 4.)
+use Prim.Native.Nat.{ℕ, _+_, _-_, _≤_, _<_}
 use mathlib.Core.Path.{_≡_, refl}
-use mathlib.Core.List.{List}
-use mathlib.Core.Bool.{cond, _&&_, _||_}
+use mathlib.Core.Logic.{_↔_, _⊎_, inl, inr}
+use mathlib.Core.Bool.{Bool, true, false, cond, _&&_, _||_}
 use native.Mathlib.Omega.{arith}
 use lib.Dec.{leb, ltb}
+use borrow.Author.Tests.{ltb-true, lt-ltb}
 use Rattle.table.specs.declared.Refusal.{Refusal}
 use Rattle.table.specs.declared.Refusal.the-variants as refusal
 use Rattle.table.specs.declared.Reading.{Reading}
-use Rattle.table.specs.declared.Reading.the-variants as read
 use Rattle.table.specs.Refusals.{toldOf}
-use Rattle.table.specs.Sound.{readOf}
-use Rattle.table.proofs.SoundLaws.{either, read-numbers}
+use Rattle.table.proofs.SoundLaws.{either}
 use Rattle.scheduler.specs.declared.State.{State}
 use Rattle.scheduler.specs.declared.Tally.{Tally}
 use Rattle.scheduler.specs.declared.Moved.{Moved}
@@ -21,7 +21,6 @@ use Rattle.scheduler.specs.declared.Answer.{Answer}
 use Rattle.scheduler.specs.declared.Answer.the-variants.{Accepted, Refused}
 use Rattle.scheduler.specs.declared.EnergyReading.{EnergyReading}
 use Rattle.scheduler.specs.States.{clockEnd, entryIn, stateFits, tallyFits}
-use Rattle.scheduler.specs.Starts.{startOf}
 use Rattle.scheduler.specs.Releases.{working, early, offBoundary, from11, from10, from9, from8, from7, releaseAnswer, releaseOf}
 use Rattle.scheduler.specs.Steps.{tickOf, made, unmoved, stepOf}
 use Rattle.scheduler.specs.Energies.{powerMost, energyIn, energyOf}
@@ -30,19 +29,6 @@ use Rattle.scheduler.specs.Energies.{powerMost, energyIn, energyOf}
 abbrev Between : ℕ → ℕ → Answer → Type 0
 Between a b Accepted = Unit {0}
 Between a b (Refused r) = (a ≤ toldOf r .number) × (toldOf r .number ≤ b)
-
--- a start
-pub start-numbers : (table : List ℕ) (r : Refusal) → startOf table .answer ≡ Refused r → (1 ≤ toldOf r .number) × (toldOf r .number ≤ 4)
-start-numbers table r e = go (readOf table) refl
-  where
-    go : (x : Reading) → readOf table ≡ x → (1 ≤ toldOf r .number) × (toldOf r .number ≤ 4)
-    go (read.Sound n) q =
-        let w : Accepted ≡ Refused r = rw q at e in
-        let z : _≡_ {A = ℕ} 0 1 = cc in absurd (let y : ⊥ = omega arith in y)
-    go (read.Refused f) q =
-        let w : Refused f ≡ Refused r = rw q at e in
-        let same : f ≡ r = cc in
-        rw (← same) (read-numbers table f q)
 
 -- a release
 release-between : (s : State) (task demand : ℕ) → Between 6 12 (releaseAnswer s task demand)
@@ -90,14 +76,40 @@ pub step-numbers : (s : State) (t : Tally) (r : Refusal) → stepOf s t .answer 
 unfolding Step-between
 step-numbers s t r e = rw e at (step-between s t)
 
--- an energy reading, which is 0 where it is refused
-pub energy-refused : (t : Tally) (run sleep : ℕ) (r : Refusal) → energyOf t run sleep .answer ≡ Refused r → energyOf t run sleep .nanojoules ≡ 0
+-- an energy reading: 6 or 13, and 0 where it is refused
+abbrev Zero-between : EnergyReading → Refusal → Type 0
+Zero-between x r = x .answer ≡ Refused r → (x .nanojoules ≡ 0) × ((toldOf r .number ≡ 6) ⊎ (toldOf r .number ≡ 13))
+
+pub energy-refused : (t : Tally) (run sleep : ℕ) (r : Refusal) → Zero-between (energyOf t run sleep) r
 energy-refused t run sleep r =
-    either (λ (x : EnergyReading). x .answer ≡ Refused r → x .nanojoules ≡ 0) (ltb clockEnd (t .run + t .slot + t .tail))
-    (record { answer = Refused refusal.Rules; nanojoules = 0 })
-    (cond (ltb powerMost run || ltb powerMost sleep) (record { answer = Refused refusal.Power; nanojoules = 0 }) (record { answer = Accepted; nanojoules = energyIn t run sleep }))
-    (λ e. refl)
-    (either (λ (x : EnergyReading). x .answer ≡ Refused r → x .nanojoules ≡ 0) (ltb powerMost run || ltb powerMost sleep)
-    (record { answer = Refused refusal.Power; nanojoules = 0 }) (record { answer = Accepted; nanojoules = energyIn t run sleep })
-    (λ e. refl)
+    either (λ (x : EnergyReading). Zero-between x r) (ltb clockEnd (t .run + t .slot + t .tail)) rules rest
+    (λ e. let same : refusal.Rules ≡ r = cc in (refl, inl (rw (← same))))
+    (either (λ (x : EnergyReading). Zero-between x r) (ltb powerMost run || ltb powerMost sleep) power read-out
+    (λ e. let same : refusal.Power ≡ r = cc in (refl, inr (rw (← same))))
     (λ e. let z : _≡_ {A = ℕ} 0 1 = cc in absurd (let y : ⊥ = omega arith in y)))
+  where
+    rules : EnergyReading
+    rules = record { answer = Refused refusal.Rules; nanojoules = 0 }
+
+    power : EnergyReading
+    power = record { answer = Refused refusal.Power; nanojoules = 0 }
+
+    read-out : EnergyReading
+    read-out = record { answer = Accepted; nanojoules = energyIn t run sleep }
+
+    rest : EnergyReading
+    rest = cond (ltb powerMost run || ltb powerMost sleep) power read-out
+
+-- 6 comes exactly where the counts sum to more than the last clock
+pub energy-six : (t : Tally) (run sleep : ℕ) → (energyOf t run sleep .answer ≡ Refused refusal.Rules) ↔ (clockEnd < t .run + t .slot + t .tail)
+energy-six t run sleep = (λ e. to (ltb clockEnd (t .run + t .slot + t .tail)) refl (ltb powerMost run || ltb powerMost sleep) refl e, λ l. rw (lt-ltb _ _ l))
+  where
+    to : (a : Bool) → ltb clockEnd (t .run + t .slot + t .tail) ≡ a → (b : Bool) → ltb powerMost run || ltb powerMost sleep ≡ b
+        → energyOf t run sleep .answer ≡ Refused refusal.Rules → clockEnd < t .run + t .slot + t .tail
+    to true q b w e = ltb-true _ _ q
+    to false q true w e =
+        let f : Refused refusal.Power ≡ Refused refusal.Rules = rw (q, w) at e in
+        let z : _≡_ {A = ℕ} 0 1 = cc in absurd (let y : ⊥ = omega arith in y)
+    to false q false w e =
+        let f : Accepted ≡ Refused refusal.Rules = rw (q, w) at e in
+        let z : _≡_ {A = ℕ} 0 1 = cc in absurd (let y : ⊥ = omega arith in y)

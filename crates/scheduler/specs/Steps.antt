@@ -26,7 +26,7 @@ mayRun h clock Resting = false
 mayRun h clock (Working a l) = leb (ready h a) clock
 
 -- a task works on a job that was released at or before a tick: at the last boundary, that is a job that may run
--- (`came-may-run`, proofs/StepLaws.antt), found with one division for all tasks
+-- (`came-may-run`, proofs/ReadyLaws.antt), found with one division for all tasks
 abbrev pub came : ℕ → Job → Bool
 came tick Resting = false
 came tick (Working a l) = leb a tick

@@ -1,5 +1,5 @@
--- What the two bounds say of a response figure: it holds for every job, the pattern can be followed on a set with
--- windows, reaches each figure exactly, and shows a task without a window late.
+-- What the two bounds say of the worst pattern: it can be followed where figures are within periods, keeps each first job
+-- at work until its figure is over, and shows a task without a window late.
 use Prim.Native.Nat.{ℕ, zero, suc, _+_, _*_, _≤_, _<_}
 use mathlib.Core.Path.{_≡_, refl, ap, _∙_}
 use native.Mathlib.Omega.{arith}
@@ -90,8 +90,7 @@ reached-before R o i w v ok O P least after early = go (standing R o i v ok O P 
     go (at-work l p e) = (l, p, e)
     go (fitted x h d) = absurd (omega (arith, least x d))
 
--- A TASK WITHOUT A WINDOW IS LATE: where no window of task i ends within d ticks of its release (d its period, or its
--- deadline), its first job is at work then
+-- A TASK WITHOUT A WINDOW IS LATE: where no window of task i ends within d ticks of its release, its first job is at work then
 pub late : (R : Rules) (o : ℕ → ℕ) (i d : ℕ) (v : View) → Sound R → Offsets R o → Pattern R o i v → 1 ≤ d
     → ((x : ℕ) → R .H + x ≤ o i + d → demand R i x ≤ x → ⊥) → v .clock ≡ o i + d
     → (l : ℕ) × (1 ≤ l) × (v .job i ≡ working (o i) l)

@@ -110,7 +110,7 @@ fn releases() {
     asked(s, 1, 1);
     asked(s, 2, 1);
     asked(s, 4, 4);
-    say(b"releases at 40: all rest\n");
+    say(b"releases at 40: task 1 came now, the others rest\n");
     let s = house_at(40);
     asked(s, 1, 2);
     asked(s, 2, 3);
@@ -336,7 +336,7 @@ fn refused_at(t: u32, i: u32, answer: Answer) {
     }
 }
 
-// A step and two releases on a state: the numbers given, and whether anything changed.
+// A step and a release on a state: the numbers given, and whether anything changed.
 fn tried(name: &[u8], s: State) {
     say(name);
     say(b": ");
