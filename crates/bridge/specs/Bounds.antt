@@ -1,10 +1,12 @@
 -- The response bound and the rest behind a tail tick, carried over to histories of calls.
 use Prim.Native.Nat.{ℕ, zero, suc, _+_, _-_, _≤_, _<_}
 use mathlib.Core.Path.{_≡_, refl, ap, sym, _∙_}
-use mathlib.Core.List.{List}
+use mathlib.Core.List.{List, [], _∷_}
+use mathlib.Core.Bool.{Bool, true, false, cond}
 use native.Mathlib.Omega.{arith}
+use lib.Dec.{leb}
 use lib.ListN.{set}
-use Rattle.theory.specs.System.{Sound, ready, Ran, Tailed}
+use Rattle.theory.specs.System.{Rules, ready, Reach, start, Ran, Tailed}
 use Rattle.theory.specs.Ready.{wait-most, wait-none}
 use Rattle.theory.specs.Rounds.{Window}
 use Rattle.theory.specs.Response.{response}
@@ -14,7 +16,9 @@ use Rattle.table.specs.declared.Reading.the-variants as read
 use Rattle.table.specs.Sound.{readOf}
 use Rattle.table.specs.Set.{rulesOf}
 use Rattle.admission.specs.Figure.{waiting, wait, limit, figure}
-use Rattle.scheduler.specs.declared.Job.the-variants.{Working}
+use Rattle.scheduler.specs.declared.Job.the-variants.{Resting, Working}
+use Rattle.scheduler.specs.declared.Job.{Job}
+use Rattle.scheduler.specs.declared.Ticked.{Ticked}
 use Rattle.scheduler.specs.declared.State.{State}
 use Rattle.scheduler.specs.declared.Tick.{Tick}
 use Rattle.scheduler.specs.declared.Tick.the-variants.{Run, Slot, Tail}
@@ -23,11 +27,11 @@ use Rattle.scheduler.specs.declared.Moved.{Moved}
 use Rattle.scheduler.specs.States.{clockEnd, entryIn}
 use Rattle.scheduler.specs.Starts.{freshState}
 use Rattle.scheduler.specs.Steps.{firstReady, workedOf, tickOf, later, behind, stepOf}
-use Rattle.scheduler.specs.History.{Call, step, Past, next, after, begun}
+use Rattle.scheduler.specs.History.{Call, release, step, Finish, Past, ended, finished, next, after, begun, All}
 use Rattle.scheduler.proofs.CallLaws.{Step-is, moves, stays, step-is, Tick-is, slots, runs, tails, tick-is}
 use Rattle.bridge.specs.Views.{jobView, viewOf}
 use Rattle.bridge.specs.Moves.{May, runner, tick-tailed, tick-ran}
-use Rattle.bridge.specs.Runs.{Bridged, bridged-next, bridged-after, go-on, history-bridged, history-reaches, rules-sound}
+use Rattle.bridge.specs.Runs.{Bridged, bridged-next, bridged-after, bridged-begun, begun-fresh, reach-after, go-on, history-bridged, history-reaches, rules-sound}
 
 -- no job of task i waits longer than the wait for its boundary
 pub waits : (table : List ℕ) (n i t : ℕ) → readOf table ≡ read.Sound n → rulesOf table .Ok i t → ready (rulesOf table .H) t ≤ t + wait (rulesOf table) i
@@ -144,3 +148,67 @@ tail-rests table n k before between e tail run = tail-still (rulesOf table) (vie
         go (slots a q) = let w : Slot ≡ Tail = sym q ∙ M .1 in let z : _≡_ {A = ℕ} 0 1 = cc in absurd (let y : ⊥ = omega arith in y)
         go (runs a b q) = let w : Run (firstReady (p .state) + 1) ≡ Tail = sym q ∙ M .1 in let z : _≡_ {A = ℕ} 0 1 = cc in absurd (let y : ⊥ = omega arith in y)
         go (tails a b q) = rw (M .2) (tick-tailed table n (p .state) (B .holds) (B .kept .sized) (B .kept .lawful-state) a b)
+
+-- a finish within the figure of its task, figures by place
+abbrev pub In-figure : (ℕ → ℕ) → Finish → Type 0
+In-figure figures f = f .at ≤ f .release + figures (f .place)
+
+-- EVERY FINISH IS WITHIN THE FIGURE, on a table of which every task has a window
+module _ (table : List ℕ) (n : ℕ) (e : readOf table ≡ read.Sound n) (figures : ℕ → ℕ)
+    (W : (i : ℕ) → i < n → (w : ℕ) × Window (rulesOf table) i (limit (rulesOf table) i) w × (figures i ≡ figure (rulesOf table) i w)) where
+  -- one step more
+  finish-next : (p : Past) → Bridged table n p → Reach (rulesOf table) (viewOf (p .state)) → All (In-figure figures) (p .finishes)
+      → All (In-figure figures) (next p step .finishes)
+  unfolding next All
+  finish-next p B r fs = go (stepOf s (p .tally) .answer) refl
+    where
+      s : State
+      s = p .state
+
+      by-job : (i : ℕ) → i < n → (job : Job) → entryIn s i .job ≡ job → All (In-figure figures) (ended i (s .clock + 1) (p .finishes) job)
+      by-job i li Resting q = fs
+      by-job i li (Working a l) q = by-left (leb l 1)
+        where
+          early : s .clock < a + figures i
+          early =
+              let x = W i li in
+              rw (x .2) (response (rulesOf table) i (x .0) (wait (rulesOf table) i) (viewOf s) a l (rules-sound table n e) (x .1 .some) (x .1 .fits)
+              (λ t ok. waits table n i t e ok) r (ap jobView q))
+
+          by-left : (b : Bool) → All (In-figure figures) (cond b (record { place = i; release = a; at = s .clock + 1 } ∷ p .finishes) (p .finishes))
+          by-left true = (omega (arith, early), fs)
+          by-left false = fs
+
+      go : (a : Ticked) → stepOf s (p .tally) .answer ≡ a → All (In-figure figures) (finished s (p .finishes) (stepOf s (p .tally) .answer))
+      go (ticked.Refused x) q = rw q fs
+      go (ticked.Tick Slot) q = rw q fs
+      go (ticked.Tick Tail) q = rw q fs
+      go (ticked.Tick (Run k)) q =
+          let R = run-is table n p k B q in
+          let li : firstReady s < n = omega (arith, running, B .holds .n-is) in
+          let same : firstReady s + 1 - 1 ≡ firstReady s = omega arith in
+          rw (q, R .numbered, same) (by-job (firstReady s) li (entryIn s (firstReady s) .job) refl)
+        where
+          running : firstReady s < s .n
+          running = by-tick (tick-is s)
+            where
+              by-tick : Tick-is s → firstReady s < s .n
+              by-tick (runs a b z) = b
+              by-tick (slots a z) = let v : Slot ≡ Run k = sym z ∙ step-moved p (Run k) q .1 in let y : _≡_ {A = ℕ} 0 1 = cc in absurd (let x : ⊥ = omega arith in x)
+              by-tick (tails a b z) = let v : Tail ≡ Run k = sym z ∙ step-moved p (Run k) q .1 in let y : _≡_ {A = ℕ} 0 1 = cc in absurd (let x : ⊥ = omega arith in x)
+
+  -- every call
+  finishes-after : (p : Past) (calls : List Call) → Bridged table n p → Reach (rulesOf table) (viewOf (p .state)) → All (In-figure figures) (p .finishes)
+      → All (In-figure figures) (after p calls .finishes)
+  unfolding after next
+  finishes-after p [] B r fs = fs
+  finishes-after p (step ∷ calls) B r fs =
+      finishes-after (next p step) calls (bridged-next table n p step B) (reach-after table n p (step ∷ []) B r) (finish-next p B r fs)
+  finishes-after p (release task demand ∷ calls) B r fs =
+      finishes-after (next p (release task demand)) calls (bridged-next table n p (release task demand) B) (reach-after table n p (release task demand ∷ []) B r) fs
+
+  -- from a fresh start
+  pub finishes-within : (calls : List Call) → All (In-figure figures) (after (begun (freshState table n)) calls .finishes)
+  unfolding All
+  finishes-within calls =
+      finishes-after (begun (freshState table n)) calls (bridged-begun table n e) (start (begun-fresh table n e)) tt

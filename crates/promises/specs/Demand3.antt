@@ -26,11 +26,13 @@ use Rattle.admission.specs.Says.{Judged, admitted, refused}
 use Rattle.admission.specs.Verdicts.{admitOf}
 use Rattle.admission.proofs.AdmitLaws.{admit-says}
 use Rattle.scheduler.specs.declared.Job.the-variants.{Resting, Working}
+use Rattle.scheduler.specs.declared.State.{State}
 use Rattle.scheduler.specs.declared.Tick.the-variants.{Run, Tail}
 use Rattle.scheduler.specs.declared.Ticked.the-variants as ticked
 use Rattle.scheduler.specs.States.{clockEnd, entryIn}
+use Rattle.scheduler.specs.Starts.{freshState, startOf}
 use Rattle.scheduler.specs.Steps.{stepOf}
-use Rattle.scheduler.specs.History.{Call, step, next, after, history, At-work}
+use Rattle.scheduler.specs.History.{Call, step, Finish, next, after, begun, history, At-work, All}
 use Rattle.scheduler.specs.Pattern.{worstPattern}
 use Rattle.bridge.specs.Bounds as bounds
 use Rattle.bridge.specs.Reached as reached
@@ -81,7 +83,16 @@ no-job-is-late table n i a l calls ok li j =
     let W = A .window i li in
     rw (W .2) (one-window-is-enough table n i (W .0) a l calls (A .sound) (W .1) j)
 
--- EVERY FINISH IS WITHIN THE FIGURE: a step that runs the last unit of a job released at a finishes it at the clock
+-- EVERY FINISH IS WITHIN THE FIGURE: of all the finishes of a history, none came later than its figure after its release
+pub every-finish-is-within : (table : List ℕ) (n : ℕ) (calls : List Call) → admitOf table .answer ≡ Admitted n
+    → All (λ (f : Finish). f .at ≤ f .release + figureOf table (f .place)) (history table calls .finishes)
+every-finish-is-within table n calls ok =
+    let A = admits table n ok in
+    let fresh : startOf table .state ≡ freshState table n = rw (A .sound) in
+    subst (λ (s : State). All (λ (f : Finish). f .at ≤ f .release + figureOf table (f .place)) (after (begun s) calls .finishes)) (sym fresh)
+    (bounds.finishes-within table n (A .sound) (figureOf table) (A .window) calls)
+
+-- and tick by tick: a step that runs the last unit of a job released at a finishes it at the clock
 -- behind it, at most the figure after a
 pub finishes-within : (table : List ℕ) (n i a : ℕ) (calls : List Call) → admitOf table .answer ≡ Admitted n → i < n
     → stepOf (history table calls .state) (history table calls .tally) .answer ≡ ticked.Tick (Run (i + 1))

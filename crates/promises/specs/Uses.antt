@@ -24,12 +24,12 @@ use Rattle.scheduler.specs.declared.Tick.the-variants.{Run, Tail}
 use Rattle.scheduler.specs.declared.Ticked.the-variants as ticked
 use Rattle.scheduler.specs.States.{entryIn, every, recordIn, periodBefore, stateFits, entriesOf}
 use Rattle.scheduler.specs.Steps.{stepOf}
-use Rattle.scheduler.specs.History.{Call, step, next, after, history, At-work}
+use Rattle.scheduler.specs.History.{Call, step, Finish, next, after, history, At-work, All}
 use Rattle.scheduler.specs.Pattern.{worstPattern}
 use Rattle.bridge.specs.Runs.{rules-sound}
 use Rattle.promises.specs.Cases.{_per_, bytesOf}
 use Rattle.promises.specs.Demand2.{admitted-exactly, refused-exactly}
-use Rattle.promises.specs.Demand3.{figureOf, one-window-is-enough, no-job-is-late, finishes-within, pattern-is-accepted, figure-is-reached, figure-is-enough, failing-task-is-late, tail-rests}
+use Rattle.promises.specs.Demand3.{figureOf, one-window-is-enough, no-job-is-late, every-finish-is-within, finishes-within, pattern-is-accepted, figure-is-reached, figure-is-enough, failing-task-is-late, tail-rests}
 
 -- the house table, and the source's Figure 1 set (case E)
 pub house : List ℕ
@@ -78,6 +78,10 @@ house-no-job-is-late a l calls j = rw (house-figures .1) at (no-job-is-late hous
 house-finishes : (a : ℕ) (calls : List Call) → stepOf (history house calls .state) (history house calls .tally) .answer ≡ ticked.Tick (Run 2)
     → entryIn (history house calls .state) 1 .job ≡ Working a 1 → history house calls .state .clock + 1 ≤ a + 32
 house-finishes a calls run j = rw (house-figures .0) at (finishes-within house 4 1 a calls house-admitted (omega arith) run j)
+
+-- and so with every finish of every history
+house-every-finish : (calls : List Call) → All (λ (f : Finish). f .at ≤ f .release + figureOf house (f .place)) (history house calls .finishes)
+house-every-finish calls = every-finish-is-within house 4 calls house-admitted
 
 -- task 1 of Figure 1 has a window of 6, and keeps to it though the set is refused
 figure-1-first-task : (a l : ℕ) (calls : List Call) → entryIn (history figure-1 calls .state) 0 .job ≡ Working a l → history figure-1 calls .state .clock < a + 6

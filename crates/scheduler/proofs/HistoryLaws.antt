@@ -26,7 +26,7 @@ use Rattle.scheduler.specs.Lawful.{Lawful-state}
 use Rattle.scheduler.specs.Starts.{freshState}
 use Rattle.scheduler.specs.Releases.{releaseAnswer, releasedState}
 use Rattle.scheduler.specs.Steps.{mayRun, firstReady, workedJob, workedOf, tickOf, later, behind, raised}
-use Rattle.scheduler.specs.History.{Call, release, step, Past, plusAt, ran, next, after, begun, workLeft, leftIn}
+use Rattle.scheduler.specs.History.{Call, release, step, Taken, Finish, Past, plusAt, ran, next, after, begun, workLeft, leftIn}
 use Rattle.scheduler.proofs.StateLaws.{says-fits}
 use Rattle.scheduler.proofs.ReleaseLaws.{Free-task, accepted-says}
 use Rattle.scheduler.proofs.CallLaws.{Sized, Step-is, moves, stays, step-is, One-place, Keeps, keeps-lawful, releasedEntry, release-place, first-says, Tick-is, slots, runs, tails, tick-is, run-place, behind-lawful, fresh-rests, fresh-lawful}
@@ -84,13 +84,14 @@ left-there : (s s' : State) (j : ℕ) (e : Entry) → One-place s s' j e → (i 
 left-there s s' j e O i n = ap {A = Entry} (λ x. workLeft (x .job)) (O .there i n)
 
 -- a refused call
-kept-refused : (p : Past) (refusals : ℕ) → Kept p → Kept (record { state = p .state; tally = p .tally; demands = p .demands; runs = p .runs; refusals = refusals })
-kept-refused p refusals K = record { sized = K .sized; lawful-state = K .lawful-state; counted = K .counted; each = K .each; total = K .total }
+kept-refused : (p : Past) (refusals : ℕ) (taken : List Taken) (finishes : List Finish) → Kept p
+    → Kept (record { state = p .state; tally = p .tally; demands = p .demands; runs = p .runs; refusals = refusals; taken = taken; finishes = finishes })
+kept-refused p refusals taken finishes K = record { sized = K .sized; lawful-state = K .lawful-state; counted = K .counted; each = K .each; total = K .total }
 
 -- an accepted release
-kept-release : (p : Past) (task demand refusals : ℕ) → Kept p → Free-task (p .state) task demand
-    → Kept (record { state = releasedState (p .state) task demand; tally = p .tally; demands = plusAt (task - 1) demand (p .demands); runs = p .runs; refusals = refusals })
-kept-release p task demand refusals K F = record {
+kept-release : (p : Past) (task demand refusals : ℕ) (taken : List Taken) (finishes : List Finish) → Kept p → Free-task (p .state) task demand
+    → Kept (record { state = releasedState (p .state) task demand; tally = p .tally; demands = plusAt (task - 1) demand (p .demands); runs = p .runs; refusals = refusals; taken = taken; finishes = finishes })
+kept-release p task demand refusals taken finishes K F = record {
   sized = P .place .sized;
   lawful-state = keeps-lawful (p .state) (releasedState (p .state) task demand) j (releasedEntry (p .state) j demand) (K .lawful-state) P;
   counted = K .counted;
@@ -112,9 +113,9 @@ kept-release p task demand refusals K F = record {
     P = release-place (p .state) task demand (K .sized) F
 
 -- a tick
-kept-tick : (p : Past) (refusals : ℕ) → Kept p → p .state .clock < clockEnd
-    → Kept (record { state = behind (p .state) (tickOf (p .state)); tally = raised (p .tally) (tickOf (p .state)); demands = p .demands; runs = ran (p .runs) (ticked.Tick (tickOf (p .state))); refusals = refusals })
-kept-tick p refusals K l = go (tick-is (p .state))
+kept-tick : (p : Past) (refusals : ℕ) (taken : List Taken) (finishes : List Finish) → Kept p → p .state .clock < clockEnd
+    → Kept (record { state = behind (p .state) (tickOf (p .state)); tally = raised (p .tally) (tickOf (p .state)); demands = p .demands; runs = ran (p .runs) (ticked.Tick (tickOf (p .state))); refusals = refusals; taken = taken; finishes = finishes })
+kept-tick p refusals taken finishes K l = go (tick-is (p .state))
   where
     s : State
     s = p .state
@@ -122,7 +123,7 @@ kept-tick p refusals K l = go (tick-is (p .state))
     B : Sized (behind s (tickOf s)) × Lawful-state (behind s (tickOf s))
     B = behind-lawful s (K .sized) (K .lawful-state) l
 
-    go : Tick-is s → Kept (record { state = behind s (tickOf s); tally = raised (p .tally) (tickOf s); demands = p .demands; runs = ran (p .runs) (ticked.Tick (tickOf s)); refusals = refusals })
+    go : Tick-is s → Kept (record { state = behind s (tickOf s); tally = raised (p .tally) (tickOf s); demands = p .demands; runs = ran (p .runs) (ticked.Tick (tickOf s)); refusals = refusals; taken = taken; finishes = finishes })
     go (slots a e) = record {
       sized = B .0;
       lawful-state = B .1;
@@ -178,13 +179,13 @@ unfolding next
 kept-next p (release task demand) K = go (releaseAnswer (p .state) task demand) refl
   where
     go : (a : Answer) → releaseAnswer (p .state) task demand ≡ a → Kept (next p (release task demand))
-    go Accepted q = rw q (kept-release p task demand _ K (accepted-says (p .state) task demand q))
-    go (Refused r) q = rw q (kept-refused p _ K)
+    go Accepted q = rw q (kept-release p task demand _ _ _ K (accepted-says (p .state) task demand q))
+    go (Refused r) q = rw q (kept-refused p _ _ _ K)
 kept-next p step K = go (step-is (p .state) (p .tally))
   where
     go : Step-is (p .state) (p .tally) → Kept (next p step)
-    go (moves f c l q) = rw q (kept-tick p _ K l)
-    go (stays r q) = rw q (kept-refused p _ K)
+    go (moves f c l q) = rw q (kept-tick p _ _ _ K l)
+    go (stays r q) = rw q (kept-refused p _ _ _ K)
 
 -- so does every list of calls
 pub kept-after : (p : Past) (calls : List Call) → Kept p → Kept (after p calls)
