@@ -9,7 +9,7 @@ use Rattle.table.specs.declared.Refusal.{Refusal}
 use Rattle.table.specs.declared.Told.{Told}
 use Rattle.table.specs.declared.Reading.{Reading}
 use Rattle.table.specs.Refusals.{toldOf}
-use Rattle.table.specs.Bytes.{wordAt, recordAt}
+use Rattle.table.specs.Bytes.{wordAt, recordsIn, recordAt}
 use Rattle.table.specs.Sound.{lawful, harmonized, readOf}
 use Rattle.admission.specs.declared.Verdict.{Verdict}
 use Rattle.admission.specs.Verdicts.{admitOf}
@@ -39,6 +39,9 @@ Settles {A} promised = (x y : A) → x ≡ promised → y ≡ promised → x ≡
 -- The public functions, crate by crate: table
 read : (table : List ℕ) → Settles {A = Reading} (readOf table)
 read table = settled (readOf table)
+
+records-in : (table : List ℕ) → Settles {A = ℕ} (recordsIn table)
+records-in table = settled (recordsIn table)
 
 record-at : (table : List ℕ) (k : ℕ) → Settles {A = Record} (recordAt table k)
 record-at table k = settled (recordAt table k)

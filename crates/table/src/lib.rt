@@ -60,7 +60,7 @@ pub enum Reading {
 pub fn read(table: &[u8]) -> Reading
     ensures { λ r. ⌜ r ≡ readOf (now (table .entry)) ⌝ }
 {
-    let count = table.len() / RECORD_BYTES;
+    let count = records_in(table);
     if table.len() % RECORD_BYTES != 0 {
         return Reading::Refused(Refusal::Length);
     }
@@ -94,11 +94,18 @@ pub fn read(table: &[u8]) -> Reading
     }
 }
 
+// How many whole records the bytes hold.
+pub fn records_in(table: &[u8]) -> usize
+    ensures { λ r. ⌜ r ≡ recordsIn (now (table .entry)) ⌝ }
+{
+    table.len() / RECORD_BYTES
+}
+
 // Record k, or a record of zeros where the bytes hold no whole record k.
 pub fn record_at(table: &[u8], k: usize) -> Record
     ensures { λ r. ⌜ r ≡ recordAt (now (table .entry)) k ⌝ }
 {
-    if k < table.len() / RECORD_BYTES {
+    if k < records_in(table) {
         Record {
             label: word_at(table, RECORD_BYTES * k),
             work: word_at(table, RECORD_BYTES * k + 4),

@@ -12,26 +12,30 @@ use Rattle.table.specs.declared.Record.{Record}
 use Rattle.table.proofs.read.Statement.{statement}
 use Rattle.table.proofs.read.Tie as tie
 
--- the records of the table at hand
-abbrev of : ((ℕ → Record) → ℕ → Reading) → List ℕ → Reading
-of f table = f (recordAt table) (recordsIn table)
+-- the records of the table at hand, as many as were counted
+abbrev of : ((ℕ → Record) → ℕ → Reading) → tie.After-records-in → Reading
+of f c = f (recordAt (c .before .before .args .table .now)) (c .records-in .result)
 
-past-1 : (c : tie.Else3) → readOf (c .before .before .before .before .args .table .now) ≡ of from2 (c .before .before .before .before .args .table .now)
+past-1 : (c : tie.Else3) → readOf (c .before .before .before .before .before .args .table .now) ≡ of from2 (c .before .before .before)
 unfolding readOf
-past-1 c = rw (eq-eqb _ _ (c .before .before .if1 .left), le-leb _ _ (c .before .if2 .left), le-leb _ _ (c .if3 .left))
+past-1 c =
+    rw (eq-eqb _ _ (c .before .before .if1 .left), ← c .before .before .before .records-in .ensures, le-leb _ _ (c .before .if2 .left), le-leb _ _ (c .if3 .left))
 
-past-2 : (c : tie.Else4) → readOf (c .before .before .before .before .before .before .args .table .now) ≡ of from3 (c .before .before .before .before .before .before .args .table .now)
+past-2 : (c : tie.Else4) → readOf (c .before .before .before .before .before .before .before .args .table .now) ≡ of from3 (c .before .before .before .before .before)
 unfolding from2
 past-2 c = let e = c .before .first-broken .ensures in past-1 (c .before .before) ∙ rw (← e, le-ltb _ _ (c .if4 .left))
 
-past-3 : (c : tie.Else5) → readOf (c .before .before .before .before .before .before .before .before .args .table .now) ≡ of from4 (c .before .before .before .before .before .before .before .before .args .table .now)
+past-3 : (c : tie.Else5) → readOf (c .before .before .before .before .before .before .before .before .before .args .table .now) ≡ of from4 (c .before .before .before .before .before .before .before)
 unfolding from3
 past-3 c = let e = c .before .first-falling .ensures in past-2 (c .before .before) ∙ rw (← e, le-ltb _ _ (c .if5 .left))
 
 -- what was asked of records 0 and 1
 fits : (c : tie.After-harmonious)
-    → harmonized (recordAt (c .before .before .before .before .before .before .before .before .before .before .before .args .table .now) 0) (recordAt (c .before .before .before .before .before .before .before .before .before .before .before .args .table .now) 1) ≡ c .harmonious .result
+    → harmonized (recordAt (c .before .before .before .before .before .before .before .before .before .before .before .before .args .table .now) 0) (recordAt (c .before .before .before .before .before .before .before .before .before .before .before .before .args .table .now) 1) ≡ c .harmonious .result
 fits c = cc
+
+records-in-requires : tie.Need-records-in-requires
+records-in-requires c κs = search needs
 
 returns : tie.Need-returns
 unfolding readOf
@@ -39,7 +43,8 @@ returns c = rw (ne-eqb _ _ (c .if1 .taken))
 
 returns-2 : tie.Need-returns-2
 unfolding readOf
-returns-2 c = rw (eq-eqb _ _ (c .before .if1 .left), lt-leb _ _ (c .if2 .taken))
+returns-2 c =
+    rw (eq-eqb _ _ (c .before .if1 .left), ← c .before .before .records-in .ensures, lt-leb _ _ (c .if2 .taken))
 
 add-if3 : tie.Need-add-if3
 add-if3 c = search needs
@@ -47,7 +52,7 @@ add-if3 c = search needs
 returns-3 : tie.Need-returns-3
 unfolding readOf
 returns-3 c =
-    rw (eq-eqb _ _ (c .before .before .if1 .left), le-leb _ _ (c .before .if2 .left), lt-leb _ _ (c .if3 .taken))
+    rw (eq-eqb _ _ (c .before .before .if1 .left), ← c .before .before .before .records-in .ensures, le-leb _ _ (c .before .if2 .left), lt-leb _ _ (c .if3 .taken))
 
 first-broken-requires : tie.Need-first-broken-requires
 first-broken-requires c κs = search needs
@@ -100,6 +105,7 @@ pub read-spec : {M : Type 1} → statement M
 read-spec =
     tie.close
     (tie.spec
+    records-in-requires
     returns
     returns-2
     add-if3

@@ -5,6 +5,9 @@ use Rattle.table.specs.Bytes.{recordAt}
 use Rattle.table.proofs.record_at.Statement.{statement}
 use Rattle.table.proofs.record_at.Tie as tie
 
+records-in-requires : tie.Need-records-in-requires
+records-in-requires c κs = search needs
+
 mul-word-at : tie.Need-mul-word-at
 mul-word-at c = search needs
 
@@ -40,16 +43,19 @@ word-at-requires-4 c κs = search needs
 
 returns : tie.Need-returns
 unfolding recordAt
-returns c = rw (lt-ltb _ _ (c .before .before .before .before .if1 .taken)) (cc)
+returns c =
+    let t = c .before .before .before .before in
+    rw (lt-ltb _ _ (rw (t .before .records-in .ensures) at (t .if1 .taken))) (cc)
 
 returns-2 : tie.Need-returns-2
 unfolding recordAt
-returns-2 c = rw (le-ltb _ _ (c .if1 .left))
+returns-2 c = rw (le-ltb _ _ (rw (c .before .records-in .ensures) at (c .if1 .left)))
 
 pub record-at-spec : {M : Type 1} → statement M
 record-at-spec =
     tie.close
     (tie.spec
+    records-in-requires
     mul-word-at
     word-at-requires
     mul-word-at-2
