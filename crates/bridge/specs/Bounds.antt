@@ -6,7 +6,7 @@ use mathlib.Core.Bool.{Bool, true, false, cond}
 use native.Mathlib.Omega.{arith}
 use lib.Dec.{leb}
 use lib.ListN.{set}
-use Rattle.theory.specs.System.{Rules, ready, Reach, start, Ran, Tailed}
+use Rattle.theory.specs.System.{ready, Reach, start, Ran, Tailed}
 use Rattle.theory.specs.Ready.{wait-most, wait-none}
 use Rattle.theory.specs.Rounds.{Window}
 use Rattle.theory.specs.Response.{response}

@@ -2,7 +2,7 @@
 use Prim.Native.Nat.{_≤_, _*_, _+_}
 use borrow.Author.Needs.{needs}
 use native.Mathlib.Omega.{arith}
-use Rattle.admission.proofs.DemandLaws.{Parts, parts-small, table-small, few-tasks, work-at, sleep-at}
+use Rattle.admission.proofs.DemandLaws.{Parts, parts-small, terms-most, table-small, few-tasks, work-at, sleep-at}
 use Rattle.table.specs.Set.{rulesOf}
 use Rattle.theory.specs.System.{demand}
 use Rattle.admission.proofs.demand.Statement.{statement}
@@ -33,8 +33,10 @@ above : (c : tie.After-struct-known3) → c .before .before .jobs-above .result 
 above c =
     let a = c .before .before .before .before .before .before .before .before in
     let few = few-tasks (a .args .table .now) (a .args .i + 1) (a .pre .0) in
-    rw (c .before .before .jobs-above .ensures, c .before .before .before .before .ceil .ensures, c .before .before .before .before .before .before .record-at .ensures)
-    (omega (arith, parts (c .before .before .before .before) .above))
+    let most = terms-most (rulesOf (a .args .table .now)) (table-small (a .args .table .now) (a .args .i + 1) (a .pre .0)) (a .args .i)
+    (c .before .before .before .before .ceil .result * c .before .before .before .before .before .before .record-at .result .period)
+    (span (c .before .before .before .before)) in
+    rw (c .before .before .jobs-above .ensures) (omega (arith, most))
 
 record-at-requires : tie.Need-record-at-requires
 record-at-requires c κs = search needs

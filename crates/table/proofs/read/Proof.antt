@@ -3,10 +3,9 @@
 use Prim.Native.Nat.{ℕ}
 use borrow.Author.Needs.{needs}
 use borrow.Author.Tests.{lt-ltb, le-ltb, lt-leb, le-leb, eq-eqb, ne-eqb}
-use mathlib.Core.List.{List}
 use mathlib.Core.Path.{_≡_, sym, _∙_}
-use Rattle.table.specs.Bytes.{recordAt, recordsIn}
-use Rattle.table.specs.Sound.{harmonized, from2, from3, from4, readOf}
+use Rattle.table.specs.Bytes.{recordAt}
+use Rattle.table.specs.Sound.{harmonized, firstBroken, from2, from3, from4, readOf}
 use Rattle.table.specs.declared.Reading.{Reading}
 use Rattle.table.specs.declared.Record.{Record}
 use Rattle.table.proofs.read.Statement.{statement}
@@ -21,9 +20,14 @@ unfolding readOf
 past-1 c =
     rw (eq-eqb _ _ (c .before .before .if1 .left), ← c .before .before .before .records-in .ensures, le-leb _ _ (c .before .if2 .left), le-leb _ _ (c .if3 .left))
 
+-- number 2 looked at all records
+broken-is : (c : tie.After-first-broken)
+    → c .first-broken .result ≡ firstBroken (recordAt (c .before .before .before .before .before .before .args .table .now)) (c .before .before .before .before .records-in .result)
+broken-is c = c .first-broken .ensures
+
 past-2 : (c : tie.Else4) → readOf (c .before .before .before .before .before .before .before .args .table .now) ≡ of from3 (c .before .before .before .before .before)
 unfolding from2
-past-2 c = let e = c .before .first-broken .ensures in past-1 (c .before .before) ∙ rw (← e, le-ltb _ _ (c .if4 .left))
+past-2 c = past-1 (c .before .before) ∙ rw (← broken-is (c .before), le-ltb _ _ (c .if4 .left))
 
 past-3 : (c : tie.Else5) → readOf (c .before .before .before .before .before .before .before .before .before .args .table .now) ≡ of from4 (c .before .before .before .before .before .before .before)
 unfolding from3
@@ -62,9 +66,7 @@ cast-t13 c = search needs
 
 returns-4 : tie.Need-returns-4
 unfolding from2
-returns-4 c =
-    let e = c .before .first-broken .ensures in
-    sym (past-1 (c .before .before) ∙ rw (← e, lt-ltb _ _ (c .if4 .taken)))
+returns-4 c = sym (past-1 (c .before .before) ∙ rw (← broken-is (c .before), lt-ltb _ _ (c .if4 .taken)))
 
 first-falling-requires : tie.Need-first-falling-requires
 first-falling-requires c κs = search needs
