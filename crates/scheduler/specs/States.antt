@@ -4,11 +4,9 @@ use mathlib.Core.List.{List}
 use mathlib.Core.Bool.{Bool, true, false, cond, _&&_, _||_, not}
 use lib.Dec.{leb, ltb, eqb}
 use lib.ListN.{getD, set, replicate}
-use Rattle.theory.specs.System.{Rules}
 use Rattle.table.specs.declared.Record.{Record}
 use Rattle.table.specs.Bytes.{noRecord, recordAt}
 use Rattle.table.specs.Sound.{places, lawful, harmonized}
-use Rattle.table.specs.Set.{rulesFrom}
 use Rattle.scheduler.specs.declared.Job.{Job}
 use Rattle.scheduler.specs.declared.Job.the-variants.{Resting, Working}
 use Rattle.scheduler.specs.declared.Last.{Last}
@@ -33,10 +31,6 @@ entryIn s i = getD (s .entries) i noEntry
 unfoldable pub recordIn : State → ℕ → Record
 recordIn s zero = s .sleep
 recordIn s (suc i) = entryIn s i .task
-
--- the rules of the state's table
-abbrev pub rulesIn : State → Rules
-rulesIn s = rulesFrom (recordIn s) (s .n)
 
 -- every one of the first n numbers passes the test
 unfoldable pub every : (ℕ → Bool) → ℕ → Bool
