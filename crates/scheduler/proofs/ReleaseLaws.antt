@@ -54,10 +54,10 @@ on-boundary task clock h e q = eqb-true _ _ (not-false _ (rw (eq-eqb task 1 q) a
 pub accepted-says : (s : State) (task demand : ℕ) → releaseAnswer s task demand ≡ Accepted → Free-task s task demand
 unfolding releaseAnswer from7 from8 from9
 accepted-says s task demand e =
-    let p6 = chosen (stateFits s) (from7 s task demand) (Refused refusal.Rules) Accepted (refused-not _) e in
-    let p7 = passed (leb clockEnd (s .clock)) (Refused refusal.ClockEnd) (from8 s task demand) Accepted (refused-not _) (p6 .1) in
-    let p8 = chosen (leb 1 task && leb task (s .n)) (from9 s task demand) (Refused refusal.NoTask) Accepted (refused-not _) (p7 .1) in
-    let p9 = chosen (leb 1 demand && leb demand (entryIn s (task - 1) .task .work)) (from10 s task) (Refused refusal.Demand) Accepted (refused-not _) (p8 .1) in
+    let p6 = chosen (stateFits s) (from7 (s .n) (s .sleep .period) (s .clock) (entryIn s (task - 1)) task demand) (Refused refusal.Rules) Accepted (refused-not _) e in
+    let p7 = passed (leb clockEnd (s .clock)) (Refused refusal.ClockEnd) (from8 (s .n) (s .sleep .period) (s .clock) (entryIn s (task - 1)) task demand) Accepted (refused-not _) (p6 .1) in
+    let p8 = chosen (leb 1 task && leb task (s .n)) (from9 (s .sleep .period) (s .clock) (entryIn s (task - 1)) task demand) (Refused refusal.NoTask) Accepted (refused-not _) (p7 .1) in
+    let p9 = chosen (leb 1 demand && leb demand (entryIn s (task - 1) .task .work)) (from10 (s .sleep .period) (s .clock) (entryIn s (task - 1)) task) (Refused refusal.Demand) Accepted (refused-not _) (p8 .1) in
     let p10 = passed (offBoundary task (s .clock) (s .sleep .period)) (Refused refusal.OffBoundary) (from11 (s .clock) (entryIn s (task - 1))) Accepted (refused-not _) (p9 .1) in
     let p11 = passed (working (entryIn s (task - 1) .job)) (Refused refusal.Working) (cond (early (entryIn s (task - 1) .last) (entryIn s (task - 1) .task .period) (s .clock)) (Refused refusal.Early) Accepted) Accepted (refused-not _) (p10 .1) in
     let p12 = passed (early (entryIn s (task - 1) .last) (entryIn s (task - 1) .task .period) (s .clock)) (Refused refusal.Early) Accepted Accepted (refused-not _) (p11 .1) in

@@ -36,26 +36,25 @@ from11 clock e =
     (cond (early (e .last) (e .task .period) clock) (Refused refusal.Early) Accepted)
 
 -- number 10, then 11 and 12
-abbrev pub from10 : State → ℕ → Answer
-from10 s task =
-    cond (offBoundary task (s .clock) (s .sleep .period)) (Refused refusal.OffBoundary) (from11 (s .clock) (entryIn s (task - 1)))
+abbrev pub from10 : ℕ → ℕ → Entry → ℕ → Answer
+from10 h clock e task = cond (offBoundary task clock h) (Refused refusal.OffBoundary) (from11 clock e)
 
 -- number 9, then 10 to 12: a demand is 1 to C
-unfoldable pub from9 : State → ℕ → ℕ → Answer
-from9 s task demand =
-    cond (leb 1 demand && leb demand (entryIn s (task - 1) .task .work)) (from10 s task) (Refused refusal.Demand)
+unfoldable pub from9 : ℕ → ℕ → Entry → ℕ → ℕ → Answer
+from9 h clock e task demand = cond (leb 1 demand && leb demand (e .task .work)) (from10 h clock e task) (Refused refusal.Demand)
 
 -- number 8, then 9 to 12: a task number is 1 to n
-unfoldable pub from8 : State → ℕ → ℕ → Answer
-from8 s task demand = cond (leb 1 task && leb task (s .n)) (from9 s task demand) (Refused refusal.NoTask)
+unfoldable pub from8 : ℕ → ℕ → ℕ → Entry → ℕ → ℕ → Answer
+from8 n h clock e task demand = cond (leb 1 task && leb task n) (from9 h clock e task demand) (Refused refusal.NoTask)
 
--- number 7, then 8 to 12
-unfoldable pub from7 : State → ℕ → ℕ → Answer
-from7 s task demand = cond (leb clockEnd (s .clock)) (Refused refusal.ClockEnd) (from8 s task demand)
+-- number 7, then 8 to 12: of n tasks, H, the clock and the task's entry
+unfoldable pub from7 : ℕ → ℕ → ℕ → Entry → ℕ → ℕ → Answer
+from7 n h clock e task demand = cond (leb clockEnd clock) (Refused refusal.ClockEnd) (from8 n h clock e task demand)
 
 -- the answer: number 6, then 7 to 12
 unfoldable pub releaseAnswer : State → ℕ → ℕ → Answer
-releaseAnswer s task demand = cond (stateFits s) (from7 s task demand) (Refused refusal.Rules)
+releaseAnswer s task demand =
+    cond (stateFits s) (from7 (s .n) (s .sleep .period) (s .clock) (entryIn s (task - 1)) task demand) (Refused refusal.Rules)
 
 -- the state with the task at work on a job released now
 abbrev pub releasedState : State → ℕ → ℕ → State

@@ -83,11 +83,13 @@ placeFits n i above h clock e = cond (ltb i n) (taskFits i above h clock e) (spa
 abbrev pub placesFit : List Entry → ℕ → ℕ → ℕ → Bool
 placesFit entries n h clock = every (λ i. placeFits n i (periodBefore entries i) h clock (getD entries i noEntry)) places
 
--- THE RULES OF A STATE: n from 1 to 16, the clock at most its end, the table rules, and every place
+-- n from 1 to 16, the clock at most its end, and the table rules of the sleep record beside the first task
+abbrev pub headFits : Record → Record → ℕ → ℕ → Bool
+headFits sleep first n clock = leb 1 n && leb n places && leb clock clockEnd && lawful sleep && harmonized sleep first
+
+-- THE RULES OF A STATE: those, and every place
 unfoldable pub stateFits : State → Bool
-stateFits s =
-    leb 1 (s .n) && leb (s .n) places && leb (s .clock) clockEnd && lawful (s .sleep) && harmonized (s .sleep) (recordIn s 1)
-    && placesFit (s .entries) (s .n) (s .sleep .period) (s .clock)
+stateFits s = headFits (s .sleep) (recordIn s 1) (s .n) (s .clock) && placesFit (s .entries) (s .n) (s .sleep .period) (s .clock)
 
 -- a tally's three counts sum to the clock
 abbrev pub tallyFits : Tally → ℕ → Bool

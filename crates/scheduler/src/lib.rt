@@ -2,13 +2,14 @@
 // on, a tally that the caller lends, and the energy of a tally. Any state, tally, task number and
 // demand may be handed in; what is refused comes back unchanged. specs/ says what each call gives.
 ghost use mathlib.Core.Path.{_≡_};
-ghost use Prim.Native.Nat.{_≤_};
+ghost use Prim.Native.Nat.{_-_, _%_, _≤_};
+ghost use lib.Dec.{eqb};
 ghost use lib.ListN.{getD};
 ghost use Rattle.theory.specs.First.{firstFrom};
 ghost use Rattle.table.specs.Bytes.{noRecord};
-ghost use Rattle.scheduler.specs.States.{noEntry, lastFits, lastIs, jobFits, taskFits, restsNever, spareFits, placeFits, placesFit, stateFits, tallyFits, entriesOf};
+ghost use Rattle.scheduler.specs.States.{noEntry, lastFits, lastIs, jobFits, taskFits, restsNever, spareFits, placeFits, placesFit, headFits, stateFits, tallyFits, entriesOf};
 ghost use Rattle.scheduler.specs.Starts.{startOf};
-ghost use Rattle.scheduler.specs.Releases.{working, early, offBoundary, from11, releaseAnswer, releaseOf};
+ghost use Rattle.scheduler.specs.Releases.{working, early, offBoundary, from11, from7, releaseAnswer, releaseOf};
 ghost use Rattle.scheduler.specs.Steps.{came, workedOf, tickOf, made, stepOf, Ready};
 ghost use Rattle.scheduler.specs.Energies.{energyOf};
 use table::MOST_TASKS;
@@ -298,6 +299,20 @@ fn fits(state: State) -> bool
     let n = state.n;
     let clock = state.clock;
     let sleep = state.sleep;
+    let entries = state.entries;
+    let first = entries[0];
+    let task = first.task;
+    if !head_fits(sleep, task, n, clock) {
+        return false;
+    }
+    places_fit(entries, n, sleep.period, clock)
+}
+
+// The rules that are not of a place: the number of tasks, the clock, and the sleep record beside
+// the first task's.
+pub fn head_fits(sleep: Record, first: Record, n: u32, clock: u32) -> bool
+    ensures { λ r. ⌜ r ≡ headFits sleep first n clock ⌝ }
+{
     if n < 1 {
         return false;
     }
@@ -310,18 +325,11 @@ fn fits(state: State) -> bool
     if !keeps(sleep) {
         return false;
     }
-    let entries = state.entries;
-    let first = entries[0];
-    let task = first.task;
-    if !harmonious(sleep, task) {
-        return false;
-    }
-    places_fit(entries, n, sleep.period, clock)
+    harmonious(sleep, first)
 }
 
 // Whether every place, a task's or a spare one, keeps its rules.
 fn places_fit(entries: [Entry; PLACES], n: u32, h: u32, clock: u32) -> bool
-    requires { ⌜ 1 ≤ h ⌝ }
     ensures { λ r. ⌜ r ≡ placesFit entries n h clock ⌝ }
 {
     let mut above: u32 = 0;
@@ -338,8 +346,9 @@ fn places_fit(entries: [Entry; PLACES], n: u32, h: u32, clock: u32) -> bool
     true
 }
 
-fn place_fits(e: Entry, n: u32, i: u32, above: u32, h: u32, clock: u32) -> bool
-    requires { ⌜ 1 ≤ h ⌝ }
+// Whether place i, behind one of period `above` (0 where it is the first), keeps its rules in a
+// state of n tasks: a task's entry where i is below n, else a spare place.
+pub fn place_fits(e: Entry, n: u32, i: u32, above: u32, h: u32, clock: u32) -> bool
     ensures { λ r. ⌜ r ≡ placeFits n i above h clock e ⌝ }
 {
     if i < n {
@@ -352,7 +361,6 @@ fn place_fits(e: Entry, n: u32, i: u32, above: u32, h: u32, clock: u32) -> bool
 // A task's entry: its record lawful and its period not below the one above it; no release after the
 // clock, task 1's on a boundary; a job with 1 to C left whose release is the last one.
 fn task_fits(e: Entry, i: u32, above: u32, h: u32, clock: u32) -> bool
-    requires { ⌜ 1 ≤ h ⌝ }
     ensures { λ r. ⌜ r ≡ taskFits i above h clock e ⌝ }
 {
     let task = e.task;
@@ -371,7 +379,6 @@ fn task_fits(e: Entry, i: u32, above: u32, h: u32, clock: u32) -> bool
 }
 
 fn last_fits(last: Last, i: u32, h: u32, clock: u32) -> bool
-    requires { ⌜ 1 ≤ h ⌝ }
     ensures { λ r. ⌜ r ≡ lastFits i h clock last ⌝ }
 {
     match last {
@@ -383,9 +390,19 @@ fn last_fits(last: Last, i: u32, h: u32, clock: u32) -> bool
             if i != 0 {
                 return true;
             }
-            a % h == 0
+            multiple(a, h)
         }
     }
+}
+
+// Whether a is a multiple of h; of 0 only 0 is one.
+fn multiple(a: u32, h: u32) -> bool
+    ensures { λ r. ⌜ r ≡ eqb (a % h) 0 ⌝ }
+{
+    if h == 0 {
+        return a == 0;
+    }
+    a % h == 0
 }
 
 fn job_fits(job: Job, last: Last, work: u32) -> bool
@@ -451,7 +468,7 @@ fn rests_never(job: Job, last: Last) -> bool
 }
 
 // Whether a tally's counts, any numbers, sum to the clock.
-fn counts(tally: Tally, clock: u32) -> bool
+pub fn counts(tally: Tally, clock: u32) -> bool
     ensures { λ r. ⌜ r ≡ tallyFits tally clock ⌝ }
 {
     tally.run as u64 + tally.slot as u64 + tally.tail as u64 == clock as u64
@@ -464,23 +481,41 @@ fn may_release(state: State, task: u32, demand: u32) -> Answer
     if !fits(state) {
         return Answer::Refused(Refusal::Rules);
     }
-    let clock = state.clock;
     let sleep = state.sleep;
-    let h = sleep.period;
+    let entries = state.entries;
+    let e = entry_of(entries, task);
+    may_come(e, state.n, sleep.period, state.clock, task, demand)
+}
+
+// The entry of a task; a spare one where there is no such place. Number 0 reads the first place.
+fn entry_of(entries: [Entry; PLACES], task: u32) -> Entry
+    ensures { λ r. ⌜ r ≡ getD entries (task - 1) noEntry ⌝ }
+{
+    if task < 1 {
+        return entries[0];
+    }
+    if MOST_TASKS < task {
+        return spare();
+    }
+    entries[(task - 1) as usize]
+}
+
+// Numbers 7 to 12, in a state that keeps its rules, from n, H, the clock and the task's entry.
+pub fn may_come(e: Entry, n: u32, h: u32, clock: u32, task: u32, demand: u32) -> Answer
+    ensures { λ r. ⌜ r ≡ from7 n h clock e task demand ⌝ }
+{
     if CLOCK_END <= clock {
         return Answer::Refused(Refusal::ClockEnd);
     }
     if task < 1 {
         return Answer::Refused(Refusal::NoTask);
     }
-    if state.n < task {
+    if n < task {
         return Answer::Refused(Refusal::NoTask);
     }
     if demand < 1 {
         return Answer::Refused(Refusal::Demand);
     }
-    let at = (task - 1) as usize;
-    let e = state.entries[at];
     let r = e.task;
     if r.work < demand {
         return Answer::Refused(Refusal::Demand);
@@ -493,11 +528,10 @@ fn may_release(state: State, task: u32, demand: u32) -> Answer
 
 // Task 1 off a multiple of H.
 fn off_boundary(task: u32, clock: u32, h: u32) -> bool
-    requires { ⌜ 1 ≤ h ⌝ }
     ensures { λ r. ⌜ r ≡ offBoundary task clock h ⌝ }
 {
     if task == 1 {
-        return clock % h != 0;
+        return !multiple(clock, h);
     }
     false
 }
@@ -600,7 +634,7 @@ fn first_ready(entries: [Entry; PLACES], n: u32, boundary: u32) -> u32
 }
 
 // Whether a task works on a job that was released at or before a tick.
-fn came_by(job: Job, tick: u32) -> bool
+pub fn came_by(job: Job, tick: u32) -> bool
     ensures { λ r. ⌜ r ≡ came tick job ⌝ }
 {
     match job {
@@ -610,7 +644,7 @@ fn came_by(job: Job, tick: u32) -> bool
 }
 
 // One unit of an entry's work done.
-fn worked(e: Entry) -> Entry
+pub fn worked(e: Entry) -> Entry
     ensures { λ r. ⌜ r ≡ workedOf e ⌝ }
 {
     let task = e.task;

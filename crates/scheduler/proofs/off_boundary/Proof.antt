@@ -1,17 +1,17 @@
 -- `scheduler::off_boundary` meets its contract.
-use borrow.Author.Needs.{needs}
 use borrow.Author.Tests.{eq-eqb, ne-eqb}
+use borrow.Author.Needs.{needs}
 use Rattle.scheduler.proofs.off_boundary.Statement.{statement}
 use Rattle.scheduler.proofs.off_boundary.Tie as tie
 
-rem-result : tie.Need-rem-result
-rem-result c = search needs
+multiple-requires : tie.Need-multiple-requires
+multiple-requires c κs = search needs
 
 returns : tie.Need-returns
-returns c = rw (eq-eqb _ _ (c .if1 .taken))
+returns c = rw (eq-eqb _ _ (c .before .if1 .taken), ← c .multiple .ensures)
 
 returns-2 : tie.Need-returns-2
 returns-2 c = rw (ne-eqb _ _ (c .if1 .left))
 
 pub off-boundary-spec : {M : Type 1} → statement M
-off-boundary-spec = tie.close (tie.spec rem-result returns returns-2)
+off-boundary-spec = tie.close (tie.spec multiple-requires returns returns-2)

@@ -1,0 +1,913 @@
+//! compare [SEED [SECONDS]]: the archive libnode.a against the model, on random inputs.
+//!
+//! Every call is made on both sides with the same bytes; the answer and every byte of every buffer
+//! must agree. The inputs follow from the seed alone; the time says how many of them are tried.
+
+mod model;
+
+use model::{set_words, word, STATE_BYTES, TALLY_BYTES, VERDICT_BYTES};
+use std::array::from_fn;
+use std::process::exit;
+use std::sync::atomic::{AtomicPtr, Ordering};
+use std::time::{Duration, Instant};
+
+extern "C" {
+    fn node_admit(table: *const u8, bytes: usize, verdict: *mut u8, verdict_bytes: usize) -> u64;
+    fn node_start(table: *const u8, bytes: usize, state: *mut u8, state_bytes: usize) -> u64;
+    fn node_release(state: *mut u8, bytes: usize, task: u32, demand: u32) -> u64;
+    fn node_step(state: *mut u8, bytes: usize, tally: *mut u8, tally_bytes: usize) -> u64;
+    fn node_energy(tally: *const u8, bytes: usize, run_power: u32, sleep_power: u32) -> u64;
+    fn signal(number: i32, handler: extern "C" fn(i32)) -> usize;
+}
+
+const END: u32 = 1_000_000_000;
+const LONGEST: u32 = 60_000;
+
+// ---- Random numbers (splitmix64) ----
+
+struct Random(u64);
+
+impl Random {
+    fn next(&mut self) -> u64 {
+        self.0 = self.0.wrapping_add(0x9e37_79b9_7f4a_7c15);
+        let z = (self.0 ^ (self.0 >> 30)).wrapping_mul(0xbf58_476d_1ce4_e5b9);
+        let z = (z ^ (z >> 27)).wrapping_mul(0x94d0_49bb_1331_11eb);
+        z ^ (z >> 31)
+    }
+
+    fn word(&mut self) -> u32 {
+        (self.next() >> 32) as u32
+    }
+
+    fn below(&mut self, end: u32) -> u32 {
+        (u64::from(self.word()) * u64::from(end) >> 32) as u32
+    }
+
+    fn among(&mut self, least: u32, most: u32) -> u32 {
+        least + self.below(most - least + 1)
+    }
+
+    fn index(&mut self, len: usize) -> usize {
+        self.below(len as u32) as usize
+    }
+
+    fn pick<T: Copy>(&mut self, from: &[T]) -> T {
+        from[self.index(from.len())]
+    }
+
+    fn chance(&mut self, percent: u32) -> bool {
+        self.below(100) < percent
+    }
+
+    /// One of `value` - 1, `value` and `value` + 1.
+    fn near(&mut self, value: u32) -> u32 {
+        value.wrapping_add(self.below(3)).wrapping_sub(1)
+    }
+
+    fn bytes(&mut self, len: usize) -> Vec<u8> {
+        let mut bytes = vec![0; len];
+        for to in bytes.chunks_mut(8) {
+            to.copy_from_slice(&self.next().to_le_bytes()[..to.len()]);
+        }
+        bytes
+    }
+
+    /// A buffer of random bytes, now and then of another length than its own.
+    fn buffer(&mut self, own: usize) -> Vec<u8> {
+        let other = self.other_length(own);
+        let len = if self.chance(12) { other } else { own };
+        self.bytes(len)
+    }
+
+    fn other_length(&mut self, own: usize) -> usize {
+        match self.below(40) {
+            0 => own + 65_536,
+            1..=3 => own + 256,
+            4..=9 => self.index(700),
+            10..=19 => own + self.pick(&[1, 4]),
+            20..=29 => own - self.pick(&[1, 4]),
+            _ => self.pick(&[0, 1, 4, 12, 192, 600]),
+        }
+    }
+
+    /// What a word is changed to; `others` are the words to take a value from.
+    fn spoiled(&mut self, old: u32, others: &[u8]) -> u32 {
+        let other = word(others, self.index(others.len() / 4));
+        match self.below(14) {
+            0 => 0,
+            1 => 1,
+            2 => old.wrapping_add(1),
+            3 => old.wrapping_sub(1),
+            4 => old ^ 1 << self.below(32),
+            5 => self.word(),
+            6 => other,
+            7 => self.near(other),
+            8 => self.pick(&[LONGEST, LONGEST + 1]),
+            9 => self.near(END),
+            10 => u32::MAX - self.below(3),
+            11 => 1 << 31 | self.below(2),
+            12 => old.wrapping_add(self.below(40)),
+            _ => self.below(100),
+        }
+    }
+}
+
+// ---- Both sides, and the counts ----
+
+#[derive(Clone, Copy)]
+enum Call {
+    Admit,
+    Start,
+    Release,
+    Step,
+    Energy,
+}
+
+struct About {
+    name: &'static str,
+    lent: &'static [&'static str],
+    numbers: &'static [&'static str],
+    /// The refusals that it can give.
+    refusals: &'static [usize],
+}
+
+/// By call.
+#[rustfmt::skip]
+const ABOUT: [About; 5] = [
+    About { name: "admit", lent: &["table", "verdict"], numbers: &[],
+            refusals: &[1, 2, 3, 4, 5, 6] },
+    About { name: "start", lent: &["table", "state"], numbers: &[],
+            refusals: &[1, 2, 3, 4, 6] },
+    About { name: "release", lent: &["state"], numbers: &["task", "demand"],
+            refusals: &[6, 7, 8, 9, 10, 11, 12] },
+    About { name: "step", lent: &["state", "tally"], numbers: &[],
+            refusals: &[6, 7] },
+    About { name: "energy", lent: &["tally"], numbers: &["run power", "sleep power"],
+            refusals: &[6, 13] },
+];
+
+/// What is counted apart.
+const KINDS: [&str; 8] = [
+    "step: run of task 1",
+    "step: run of a lower task",
+    "step: slot",
+    "step: tail",
+    "admitted, at least 5 rounds on a task",
+    "admitted, at least 20 rounds on a task",
+    "refusal 5 after at least 5 rounds",
+    "refusal 5 after at least 20 rounds",
+];
+
+/// Memory from which a buffer is lent to the archive, at changing alignments and with a guard on
+/// either side.
+#[derive(Default)]
+struct Room {
+    bytes: Vec<u8>,
+    at: usize,
+    guard: u8,
+}
+
+const GUARD: usize = 32;
+
+impl Room {
+    fn lend(&mut self, given: &[u8], call: u64) -> *mut u8 {
+        self.at = GUARD + call as usize % 8;
+        self.guard = (call / 8) as u8;
+        let end = self.at + given.len();
+        if self.bytes.len() < end + GUARD {
+            self.bytes.resize(end + GUARD, 0);
+        }
+        self.bytes[self.at - GUARD..self.at].fill(self.guard);
+        self.bytes[self.at..end].copy_from_slice(given);
+        self.bytes[end..end + GUARD].fill(self.guard);
+        self.bytes[self.at..end].as_mut_ptr()
+    }
+
+    fn back(&self, len: usize) -> &[u8] {
+        &self.bytes[self.at..self.at + len]
+    }
+
+    fn guarded(&self, len: usize) -> bool {
+        let end = self.at + len;
+        let guard = [self.guard; GUARD];
+        self.bytes[self.at - GUARD..self.at] == guard && self.bytes[end..end + GUARD] == guard
+    }
+}
+
+struct Both {
+    seed: u64,
+    calls: u64,
+    rooms: [Room; 2],
+    /// The call under way, for the report.
+    call: Call,
+    given: [Vec<u8>; 2],
+    numbers: [u32; 2],
+    /// By call and refusal number, 0 where accepted.
+    counts: [[u64; 14]; 5],
+    kinds: [u64; KINDS.len()],
+    most_rounds: u32,
+}
+
+impl Both {
+    fn new(seed: u64) -> Both {
+        Both {
+            seed,
+            calls: 0,
+            rooms: Default::default(),
+            call: Call::Admit,
+            given: Default::default(),
+            numbers: [0; 2],
+            counts: [[0; 14]; 5],
+            kinds: [0; KINDS.len()],
+            most_rounds: 0,
+        }
+    }
+
+    fn admit(&mut self, table: &[u8], verdict: &mut [u8]) {
+        let [t, v] = self.lend(Call::Admit, [table, verdict], [0, 0]);
+        let archive = unsafe { node_admit(t, table.len(), v, verdict.len()) };
+        let model = model::admit_bytes(table, verdict);
+        self.judge([table, verdict], archive, model);
+        let (kind, rounds) = match model & 0xff {
+            0 => (4, (32..48).map(|at| word(verdict, at)).max().unwrap()),
+            5 => (6, (model >> 16) as u32),
+            _ => return,
+        };
+        self.kinds[kind] += u64::from(rounds >= 5);
+        self.kinds[kind + 1] += u64::from(rounds >= 20);
+        self.most_rounds = self.most_rounds.max(rounds);
+    }
+
+    fn start(&mut self, table: &[u8], state: &mut [u8]) {
+        let [t, s] = self.lend(Call::Start, [table, state], [0, 0]);
+        let archive = unsafe { node_start(t, table.len(), s, state.len()) };
+        let model = model::start_bytes(table, state);
+        self.judge([table, state], archive, model);
+    }
+
+    fn release(&mut self, state: &mut [u8], task: u32, demand: u32) {
+        let [s, _] = self.lend(Call::Release, [state, &[]], [task, demand]);
+        let archive = unsafe { node_release(s, state.len(), task, demand) };
+        let model = model::release_bytes(state, task, demand);
+        self.judge([state, &[]], archive, model);
+    }
+
+    fn step(&mut self, state: &mut [u8], tally: &mut [u8]) {
+        let [s, y] = self.lend(Call::Step, [state, tally], [0, 0]);
+        let archive = unsafe { node_step(s, state.len(), y, tally.len()) };
+        let model = model::step_bytes(state, tally);
+        self.judge([state, tally], archive, model);
+        match (model & 0xff, model >> 8 & 0xff, model >> 16) {
+            (0, 0, 1) => self.kinds[0] += 1,
+            (0, kind, _) => self.kinds[1 + kind as usize] += 1,
+            _ => {}
+        }
+    }
+
+    fn energy(&mut self, tally: &[u8], run_power: u32, sleep_power: u32) {
+        let [y, _] = self.lend(Call::Energy, [tally, &[]], [run_power, sleep_power]);
+        let archive = unsafe { node_energy(y, tally.len(), run_power, sleep_power) };
+        let model = model::energy_bytes(tally, run_power, sleep_power);
+        self.judge([tally, &[]], archive, model);
+    }
+
+    fn lend(&mut self, call: Call, given: [&[u8]; 2], numbers: [u32; 2]) -> [*mut u8; 2] {
+        self.calls += 1;
+        self.call = call;
+        self.numbers = numbers;
+        for (copy, bytes) in self.given.iter_mut().zip(given) {
+            copy.clear();
+            copy.extend_from_slice(bytes);
+        }
+        let [first, second] = &mut self.rooms;
+        let turn = self.calls;
+        [first.lend(given[0], turn), second.lend(given[1], turn / 3)]
+    }
+
+    /// `after` is what the model left in the buffers.
+    fn judge(&mut self, after: [&[u8]; 2], archive: u64, model: u64) {
+        let agrees = |(room, after): (&Room, &[u8])| {
+            room.back(after.len()) == after && room.guarded(after.len())
+        };
+        if archive != model || !self.rooms.iter().zip(after).all(agrees) {
+            self.report(after, archive, model);
+        }
+        self.counts[self.call as usize][(model & 0xff) as usize] += 1;
+    }
+
+    fn print_given(&self) {
+        let about = &ABOUT[self.call as usize];
+        let (call, seed) = (self.calls, self.seed);
+        println!("call {call} of seed {seed}: node_{}", about.name);
+        for (name, bytes) in about.lent.iter().zip(&self.given) {
+            println!("{name}, {} bytes: {}", bytes.len(), hex(bytes));
+        }
+        for (name, number) in about.numbers.iter().zip(self.numbers) {
+            println!("{name}: {number}");
+        }
+    }
+
+    fn report(&self, after: [&[u8]; 2], archive: u64, model: u64) -> ! {
+        println!("DIFFERENCE");
+        self.print_given();
+        for (side, answer) in [("archive", archive), ("model", model)] {
+            let [low, next, rest] = [answer & 0xff, answer >> 8 & 0xff, answer >> 16];
+            println!("{side} answers {answer:#x}: number {low}, then {next}, then {rest}");
+        }
+        let names = ABOUT[self.call as usize].lent;
+        for ((name, room), after) in names.iter().zip(&self.rooms).zip(after) {
+            println!("{name} left by archive: {}", hex(room.back(after.len())));
+            println!("{name} left by model:   {}", hex(after));
+            if !room.guarded(after.len()) {
+                println!("the archive wrote outside the {name}");
+            }
+        }
+        exit(1)
+    }
+}
+
+fn hex(bytes: &[u8]) -> String {
+    bytes.iter().map(|byte| format!("{byte:02x}")).collect()
+}
+
+/// For a call that ends by a fault, which is a difference too.
+static UNDER_WAY: AtomicPtr<Both> = AtomicPtr::new(std::ptr::null_mut());
+
+extern "C" fn fault(number: i32) {
+    println!("DIFFERENCE: ended by signal {number} in or after");
+    if let Some(both) = unsafe { UNDER_WAY.load(Ordering::Relaxed).as_ref() } {
+        both.print_given();
+    }
+    exit(1)
+}
+
+// ---- Tables ----
+
+/// By record its label, work, period and reserved field.
+type Set = Vec<[u32; 4]>;
+
+fn bytes_of(set: &[[u32; 4]]) -> Vec<u8> {
+    let words = set.iter().flatten();
+    words.flat_map(|word| word.to_le_bytes()).collect()
+}
+
+/// A sound set, small (so that there are many windows and near misses) or large.
+fn sound_set(random: &mut Random) -> Set {
+    let most_n = random.pick(&[3, 6, 16]);
+    let n = random.among(1, most_n);
+    // The greatest H, and how far apart the periods are.
+    let small = [(4, 3), (6, 12), (10, 40), (30, 90), (30, 2_000)];
+    let large = [(300, 900), (5_000, 9_000), (LONGEST, 20_000)];
+    let sizes = if random.chance(65) {
+        &small[..]
+    } else {
+        &large
+    };
+    let (most_h, rise) = random.pick(sizes);
+    let h = random.among(2, most_h);
+    let most_s = random.pick(&[1 + (h - 2) / 4, 1 + (h - 2) / 4, h - 1]);
+    let s = random.among(1, most_s);
+    let most_multiple = random.pick(&[1, 2, 4, 12]).min(LONGEST / h);
+    let mut period = h * random.among(1, most_multiple);
+    // How much the tasks ask of what the slots leave, in percent: from little to too much.
+    let loads = [random.among(20, 115), random.among(80, 102)];
+    let load = random.pick(&loads);
+    let mut set = vec![[random.word(), s, h, 0]];
+    for i in 0..n {
+        if i > 0 && random.chance(85) {
+            period = LONGEST.min(period + random.below(rise));
+        }
+        let share = u64::from(period) * u64::from(load * (h - s)) / u64::from(100 * h * n);
+        let share = share as u32;
+        let work = random.among(share / 2, share + share / 2 + 1);
+        set.push([random.word(), work.clamp(1, period), period, 0]);
+    }
+    set
+}
+
+/// Moves one task's work or period to the edge of having a window, or one past it.
+fn tighten(random: &mut Random, set: &mut [[u32; 4]]) {
+    let i = 1 + random.index(set.len() - 1);
+    let window = |set: &[[u32; 4]]| model::admit(&bytes_of(&set[..=i])).windows[i - 1];
+    if random.chance(50) {
+        // The greatest work that has a window, if one has; the period has none.
+        let (mut fits, mut breaks) = (0, set[i][2]);
+        while breaks - fits > 1 {
+            set[i][1] = (fits + breaks) / 2;
+            if window(set) > 0 {
+                fits = set[i][1];
+            } else {
+                breaks = set[i][1];
+            }
+        }
+        set[i][1] = random.pick(&[breaks, fits.max(1)]);
+    } else if i > 1 && window(set) > 0 {
+        // The least period that has a window, or one less, where the periods still never fall.
+        let period = window(set) + set[0][2] - 1 - random.below(2);
+        if period >= set[i - 1][2] && period >= set[i][1] {
+            set[i][2] = period;
+        }
+    }
+}
+
+/// Breaks one rule, or only changes some bytes.
+fn damage(random: &mut Random, table: &mut Vec<u8>) {
+    let records = table.len() / 16;
+    if records < 2 || random.chance(10) {
+        let len = match random.below(30) {
+            0 => table.len() + 65_536,
+            1..=9 => table.len() + random.pick(&[1, 8, 16, 256]),
+            10..=19 => random.index(400),
+            _ => random.pick(&[0, 15, 16, 17, 32, 272, 273, 287, 288, 304]),
+        };
+        table.resize(len, 0);
+        return;
+    }
+    let record = random.index(records);
+    let at = 4 * record;
+    let [work, period] = [1, 2].map(|i| word(table, at + i));
+    let [s, h, first_period] = [1, 2, 6].map(|i| word(table, i));
+    let any = random.index(4 * records);
+    let (at, value) = match random.below(13) {
+        0 => (at + 3, random.spoiled(0, table)),
+        1 => (at + 1, 0),
+        2 => (at + 1, period.wrapping_add(random.among(1, 2))),
+        3 => (at + 2, work.wrapping_sub(1)),
+        4 => (at + 2, LONGEST + random.below(2)),
+        // A period that falls, and nothing else wrong.
+        5 | 6 if record >= 2 => {
+            let fallen = word(table, at - 2).wrapping_sub(random.among(1, 2));
+            set_words(table, at + 1, &[work.min(fallen)]);
+            (at + 2, fallen)
+        }
+        // Sleep time, harmonizing period and the first period.
+        7 => (1, random.near(h)),
+        8 => (2, s),
+        9 => (2, random.near(h)),
+        10 => (6, random.near(first_period)),
+        11 => (any, random.spoiled(word(table, any), table)),
+        _ => {
+            let byte = 0xff << (8 * random.below(4));
+            (any, word(table, any) & !byte | random.word() & byte)
+        }
+    };
+    set_words(table, at, &[value]);
+}
+
+fn tables(random: &mut Random, both: &mut Both) {
+    for _ in 0..60 {
+        let mut set = sound_set(random);
+        if random.chance(40) {
+            tighten(random, &mut set);
+        }
+        let mut table = bytes_of(&set);
+        if random.chance(3) {
+            let len = random.index(400);
+            table = random.bytes(len);
+        } else if random.chance(35) {
+            for _ in 0..random.pick(&[1, 1, 1, 2, 3]) {
+                damage(random, &mut table);
+            }
+        }
+        both.admit(&table, &mut random.buffer(VERDICT_BYTES));
+        if random.chance(40) {
+            both.start(&table, &mut random.buffer(STATE_BYTES));
+        }
+    }
+}
+
+// ---- Histories ----
+
+// Where the words of a state stand, and from place(i) on those of an entry.
+const WORDS: usize = STATE_BYTES / 4;
+const H: usize = 2;
+const N: usize = 4;
+const CLOCK: usize = 5;
+const WORK: usize = 1;
+const PERIOD: usize = 2;
+const JOB: usize = 4;
+const BEFORE: usize = 7;
+const LAST: usize = 8;
+
+fn place(i: usize) -> usize {
+    6 + 9 * i
+}
+
+#[derive(Clone)]
+struct Node {
+    state: Vec<u8>,
+    tally: Vec<u8>,
+}
+
+impl Node {
+    fn get(&self, at: usize) -> u32 {
+        word(&self.state, at)
+    }
+
+    fn set(&mut self, at: usize, words: &[u32]) {
+        set_words(&mut self.state, at, words);
+    }
+
+    /// May the task at place i be released at this clock?
+    fn due(&self, i: usize) -> bool {
+        let [clock, h] = [CLOCK, H].map(|at| self.get(at));
+        let [job, before, last, period] =
+            [JOB, BEFORE, LAST, PERIOD].map(|w| self.get(place(i) + w));
+        job == 0 && (before == 0 || clock.wrapping_sub(last) >= period) && (i > 0 || clock % h == 0)
+    }
+
+    /// Changes one count so that the tally sums to the clock, in 32 bits.
+    fn settle(&mut self, random: &mut Random) {
+        let [a, b, c] = [0, 1, 2].map(|at| word(&self.tally, at));
+        let missing = self
+            .get(CLOCK)
+            .wrapping_sub(a)
+            .wrapping_sub(b)
+            .wrapping_sub(c);
+        let at = random.index(3);
+        let count = [a, b, c][at].wrapping_add(missing);
+        set_words(&mut self.tally, at, &[count]);
+    }
+}
+
+fn any_release(random: &mut Random, both: &mut Both, node: &mut Node) {
+    let n = node.get(N);
+    let places = n.clamp(1, 16) as usize;
+    let mut i = random.index(places);
+    if random.chance(50) {
+        i = (i..places).find(|&i| node.due(i)).unwrap_or(i);
+    }
+    let (task, work) = (i as u32 + 1, node.get(place(i) + WORK));
+    let demand = match random.below(12) {
+        0 => 0,
+        1 => work.wrapping_add(1),
+        2 => random.spoiled(work, &node.state),
+        3..=6 => work,
+        _ => random.below(work).wrapping_add(1),
+    };
+    let task = match random.below(12) {
+        0 => random.pick(&[0, n.wrapping_add(1), 16, 17, 256, u32::MAX]),
+        1 => task | random.word() << random.below(32),
+        _ => task,
+    };
+    both.release(&mut node.state, task, demand);
+}
+
+/// Moves the clock on, and some releases with it, in a lawful way.
+fn jump(random: &mut Random, node: &mut Node) {
+    let [clock, h, n] = [CLOCK, H, N].map(|at| node.get(at));
+    let some = place(random.below(n) as usize);
+    let due = node.get(some + LAST) + node.get(some + PERIOD);
+    let boundary = clock - clock % h + h * random.among(1, 3);
+    let to = match random.below(12) {
+        0 => END - random.below(2 * h + 3),
+        1 => END - random.below(3),
+        2 => random.among(clock, END),
+        3..=5 => random.near(due),
+        6..=8 => random.near(boundary),
+        _ => clock + random.below(3 * h),
+    };
+    let to = to.clamp(clock, END);
+    node.set(CLOCK, &[to]);
+    node.settle(random);
+    for i in 0..n as usize {
+        if random.chance(50) {
+            continue;
+        }
+        let [work, period] = [WORK, PERIOD].map(|w| node.get(place(i) + w));
+        let release = match random.below(4) {
+            0 => to,
+            1 => random.near(to - to % h),
+            2 => random.near(to.saturating_sub(period)),
+            _ => to.saturating_sub(random.below(period)),
+        };
+        // No later than the clock (1 before 0 is late too), and task 1 on a boundary.
+        let release = if release > to { to } else { release };
+        let release = if i == 0 {
+            release - release % h
+        } else {
+            release
+        };
+        let job = [1, release, random.among(1, work)];
+        node.set(place(i) + JOB, &random.pick(&[[0, 0, 0], job]));
+        node.set(place(i) + BEFORE, &[1, release]);
+    }
+}
+
+/// A start and some hundred calls after it; what it ends with is lawful.
+fn history(random: &mut Random, both: &mut Both) -> Node {
+    let mut set = sound_set(random);
+    if random.chance(20) {
+        tighten(random, &mut set);
+    }
+    let mut node = Node {
+        state: random.bytes(STATE_BYTES),
+        tally: vec![0; TALLY_BYTES],
+    };
+    both.start(&bytes_of(&set), &mut node.state);
+    let n = set.len() - 1;
+    let eager = random.pick(&[5, 30, 90]);
+    let jumps = random.pick(&[0, 1, 6]);
+    let mut saved = node.clone();
+    for _ in 0..random.among(50, 500) {
+        let first = random.index(n);
+        for i in (first..n).chain(0..first) {
+            if node.due(i) && random.chance(eager) {
+                let work = set[i + 1][1];
+                let less = random.among(1, work);
+                let demand = random.pick(&[work, work, less]);
+                both.release(&mut node.state, i as u32 + 1, demand);
+            }
+        }
+        if random.chance(25) {
+            any_release(random, both, &mut node);
+        }
+        both.step(&mut node.state, &mut node.tally);
+        if random.chance(jumps) {
+            jump(random, &mut node);
+        }
+        if random.chance(5) {
+            spoil(random, both, &node);
+        }
+        if random.chance(2) {
+            saved = node.clone();
+        } else if random.chance(2) || node.get(CLOCK) == END && random.chance(20) {
+            node = saved.clone();
+        }
+    }
+    node
+}
+
+// ---- States and tallies that are spoiled ----
+
+/// A step and a release, each on a copy.
+fn try_both(random: &mut Random, both: &mut Both, node: &Node) {
+    let mut copy = node.clone();
+    both.step(&mut copy.state, &mut copy.tally);
+    copy.state.clone_from(&node.state);
+    if copy.state.len() == STATE_BYTES && copy.get(H) > 0 {
+        any_release(random, both, &mut copy);
+    } else {
+        both.release(&mut copy.state, random.among(1, 4), 1);
+    }
+}
+
+/// Changes a lawful state or its tally in one way, and tries both calls.
+fn spoil(random: &mut Random, both: &mut Both, node: &Node) {
+    let mut spoiled = node.clone();
+    let [clock, h, n] = [CLOCK, H, N].map(|at| node.get(at));
+    match random.below(16) {
+        0..=4 => {
+            let at = random.index(WORDS);
+            let value = random.spoiled(node.get(at), &node.state);
+            spoiled.set(at, &[value]);
+        }
+        // One entry, in several words.
+        5..=7 => {
+            let at = place(random.index(16));
+            let [work, last] = [WORK, LAST].map(|w| node.get(at + w));
+            let release = random.pick(&[clock, clock - clock % h, last, last, 0]);
+            let release = random.near(release);
+            let last = random.pick(&[release, release, release, last, clock]);
+            let left = random.pick(&[0, 1, work, work + 1, u32::MAX]);
+            let kind = random.pick(&[0, 1, 1, 1, 2]);
+            let before = random.pick(&[[1, last], [1, last], [0, 0], [kind, last]]);
+            let job = random.pick(&[[0, 0, 0], [kind, release, left]]);
+            spoiled.set(at + JOB, &job);
+            spoiled.set(at + BEFORE, &before);
+        }
+        // The rules of the table.
+        8 => {
+            let records = (0..n as usize).map(|i| 4 * place(i));
+            let homes: Vec<usize> = [0].into_iter().chain(records).collect();
+            let mut table = Vec::new();
+            for home in &homes {
+                table.extend_from_slice(&node.state[*home..home + 16]);
+            }
+            damage(random, &mut table);
+            for (home, record) in homes.iter().zip(table.chunks_exact(16)) {
+                spoiled.state[*home..home + 16].copy_from_slice(record);
+            }
+        }
+        // A clock that the tally agrees with, then a tally that agrees in 32 bits only.
+        9 => {
+            let clocks = [END - 1, END, END + 1, u32::MAX, clock / 2, random.word()];
+            spoiled.set(CLOCK, &[random.pick(&clocks)]);
+            spoiled.settle(random);
+        }
+        10 => {
+            let counts = [random.word() | 1 << 31, random.word()];
+            set_words(&mut spoiled.tally, random.index(2), &counts);
+            spoiled.settle(random);
+        }
+        11 => {
+            let at = random.index(3);
+            let value = random.spoiled(word(&node.tally, at), &node.state);
+            set_words(&mut spoiled.tally, at, &[value]);
+        }
+        // Fewer tasks or more, the last of them a copy of the first.
+        12 => {
+            let n = random.pick(&[0, n - 1, n + 1, 16, 17, u32::MAX, 1 << 31 | n]);
+            spoiled.set(N, &[n]);
+            if random.chance(50) && (1..=16).contains(&n) {
+                let last = 4 * place(n as usize - 1);
+                spoiled.state.copy_within(4 * place(0)..4 * place(1), last);
+            }
+        }
+        13 => {
+            let len = random.other_length(STATE_BYTES);
+            spoiled.state.resize(len, 0);
+        }
+        14 => {
+            let len = random.other_length(TALLY_BYTES);
+            spoiled.tally.resize(len, 0);
+        }
+        _ => match random.below(3) {
+            0 => spoiled.state = random.bytes(STATE_BYTES),
+            1 => spoiled.state.fill(0),
+            _ => {
+                for _ in 0..random.among(1, 6) {
+                    let at = random.index(STATE_BYTES);
+                    spoiled.state[at] = random.word() as u8;
+                }
+            }
+        },
+    }
+    try_both(random, both, &spoiled);
+}
+
+/// Every word of a lawful state in turn, and of its tally.
+fn sweep(random: &mut Random, both: &mut Both, node: &Node) {
+    for at in 0..WORDS {
+        let old = node.get(at);
+        let bit = 1 << random.below(32);
+        let other = node.get(random.index(WORDS));
+        let edges = [0, 1, LONGEST, LONGEST + 1, END, END + 1, u32::MAX];
+        let near = [old.wrapping_add(1), old.wrapping_sub(1), old ^ bit];
+        let mut spoiled = node.clone();
+        for value in edges.into_iter().chain(near).chain([other, random.word()]) {
+            spoiled.set(at, &[value]);
+            try_both(random, both, &spoiled);
+        }
+    }
+    for at in 0..3 {
+        for more in [1, 2, 1 << 16, 1 << 31, u32::MAX - 1, u32::MAX] {
+            let mut spoiled = node.clone();
+            let count = word(&node.tally, at).wrapping_add(more);
+            set_words(&mut spoiled.tally, at, &[count]);
+            try_both(random, both, &spoiled);
+        }
+    }
+}
+
+// ---- Energy ----
+
+/// Three counts with a chosen sum; where two of them pass it, it is met in 32 bits only.
+fn counts(random: &mut Random) -> [u32; 3] {
+    let sum = match random.below(4) {
+        0 => END - 2 + random.below(5),
+        1 => random.below(END + 1),
+        2 => random.word() >> random.below(32),
+        _ => random.below(4).wrapping_sub(2),
+    };
+    let mut left = sum;
+    let mut counts = [0; 3];
+    for count in &mut counts[..2] {
+        *count = match random.below(5) {
+            0 => 0,
+            1 => left,
+            2 => random.word(),
+            _ => random.below(left),
+        };
+        left = left.wrapping_sub(*count);
+    }
+    counts[2] = left;
+    counts.rotate_left(random.index(3));
+    counts
+}
+
+fn power(random: &mut Random) -> u32 {
+    match random.below(8) {
+        0 => random.pick(&[0, 1, 1 << 31, u32::MAX]),
+        1..=2 => random.near(1_000_000),
+        3 => random.word() >> random.below(32),
+        _ => random.below(1_000_001),
+    }
+}
+
+fn energies(random: &mut Random, both: &mut Both) {
+    for _ in 0..40 {
+        let mut tally = random.buffer(TALLY_BYTES);
+        if tally.len() == TALLY_BYTES {
+            set_words(&mut tally, 0, &counts(random));
+        }
+        both.energy(&tally, power(random), power(random));
+    }
+}
+
+// ---- The program ----
+
+fn round(random: &mut Random, both: &mut Both) {
+    match random.below(100) {
+        0..=34 => tables(random, both),
+        35..=44 => energies(random, both),
+        turn => {
+            let node = history(random, both);
+            if turn < 47 {
+                sweep(random, both, &node);
+            }
+        }
+    }
+}
+
+fn print_counts(both: &Both) {
+    let row = |name: String, cells: [String; 5]| {
+        let cells = cells.map(|cell| format!("{cell:>12}")).concat();
+        println!("{name:<12}{cells}");
+    };
+    row(String::new(), from_fn(|call| ABOUT[call].name.into()));
+    let total = |call: usize| both.counts[call].iter().sum::<u64>().to_string();
+    row("calls".into(), from_fn(total));
+    row(
+        "accepted".into(),
+        both.counts.map(|counts| counts[0].to_string()),
+    );
+    for number in 1..14 {
+        let cell = |call: usize| match ABOUT[call].refusals.contains(&number) {
+            true => both.counts[call][number].to_string(),
+            false => "-".into(),
+        };
+        row(format!("refusal {number}"), from_fn(cell));
+    }
+    for (kind, count) in KINDS.iter().zip(both.kinds) {
+        println!("{kind:<40}{count:>12}");
+    }
+    println!("{:<40}{:>12}", "most rounds on a task", both.most_rounds);
+}
+
+/// What a call can answer and never did.
+fn never_seen(both: &Both) -> Vec<String> {
+    let mut never = Vec::new();
+    for (about, counts) in ABOUT.iter().zip(&both.counts) {
+        if counts[0] == 0 {
+            never.push(format!("{} accepted", about.name));
+        }
+        for number in about.refusals.iter().filter(|number| counts[**number] == 0) {
+            never.push(format!("{} refusal {number}", about.name));
+        }
+    }
+    for (kind, count) in KINDS.iter().zip(both.kinds) {
+        if count == 0 {
+            never.push(kind.to_string());
+        }
+    }
+    never
+}
+
+fn main() {
+    let arguments: Vec<_> = std::env::args().skip(1).map(|a| a.parse()).collect();
+    let (seed, seconds) = match arguments[..] {
+        [] => (1, 60),
+        [Ok(seed)] => (seed, 60),
+        [Ok(seed), Ok(seconds)] => (seed, seconds),
+        _ => {
+            eprintln!("usage: compare [SEED [SECONDS]]");
+            exit(2)
+        }
+    };
+    model::cases();
+
+    let mut random = Random(seed);
+    let mut both = Both::new(seed);
+    UNDER_WAY.store(&mut both, Ordering::Relaxed);
+    // Illegal instruction, abort, bus error, arithmetic fault, memory fault.
+    for number in [4, 6, 7, 8, 11] {
+        unsafe { signal(number, fault) };
+    }
+
+    let begun = Instant::now();
+    let end = Duration::from_secs(seconds);
+    let mut progress = Duration::from_secs(5);
+    loop {
+        let spent = begun.elapsed();
+        if spent >= end {
+            break;
+        }
+        if spent >= progress {
+            progress = spent + Duration::from_secs(5);
+            let (calls, left) = (both.calls, (end - spent).as_secs());
+            let rate = calls as f64 / spent.as_secs_f64();
+            eprintln!("{calls} calls, {rate:.0} a second, {left} s left");
+        }
+        round(&mut random, &mut both);
+    }
+
+    print_counts(&both);
+    let never = never_seen(&both);
+    if !never.is_empty() {
+        println!("never seen: {}", never.join(", "));
+        exit(1);
+    }
+    let calls = both.calls;
+    println!("no difference in {calls} calls; every refusal number 1 to 13 seen");
+}

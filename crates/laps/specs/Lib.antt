@@ -1,0 +1,2 @@
+-- many steps
+pub mod Laps

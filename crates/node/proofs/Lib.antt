@@ -1,0 +1,10 @@
+-- bytes and words, there and back
+pub mod WordLaws
+-- states and bytes, there and back
+pub mod LayoutLaws
+-- words put into a state's bytes
+pub mod PutLaws
+-- what the calls on bytes know of the calls on states
+pub mod MovedLaws
+-- the calls on bytes by their cases
+pub mod OnLaws

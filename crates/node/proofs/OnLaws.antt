@@ -1,0 +1,99 @@
+-- The calls on bytes by their cases: what is refused leaves the bytes as they are, what is accepted leaves the bytes of
+-- the state and the tally behind it.
+use Prim.Native.Nat.{ℕ, _+_, _-_, _≤_, _<_}
+use mathlib.Core.Path.{_≡_, refl, sym, _∙_, ap}
+use mathlib.Core.List.{List}
+use mathlib.Core.Bool.{Bool, true, false, cond, _&&_, and-eq-true-iff}
+use native.Mathlib.Omega.{arith}
+use lib.Dec.{eqb}
+use lib.ListN.{length}
+use borrow.Author.Tests.{lt-leb, le-leb, eq-eqb, ne-eqb}
+use Rattle.table.specs.declared.Refusal.{Refusal}
+use Rattle.table.specs.declared.Refusal.the-variants as refusal
+use Rattle.table.specs.Refusals.{toldOf}
+use Rattle.scheduler.specs.declared.State.{State}
+use Rattle.scheduler.specs.declared.Tally.{Tally}
+use Rattle.scheduler.specs.declared.Answer.{Answer}
+use Rattle.scheduler.specs.declared.Answer.the-variants.{Accepted, Refused}
+use Rattle.scheduler.specs.declared.Moved.{Moved}
+use Rattle.scheduler.specs.declared.Released.{Released}
+use Rattle.scheduler.specs.States.{clockEnd, stateFits, tallyFits}
+use Rattle.scheduler.specs.Releases.{releaseAnswer, releasedFrom, releasedState, releaseOf}
+use Rattle.scheduler.specs.Steps.{tickOf, behind, raised, made, unmoved, stepOf}
+use Rattle.node.specs.Words.{wordIn, Octets}
+use Rattle.node.specs.Layout.{stateBytes, tallyBytes, stateIn, tallyIn, encodes, countsIn}
+use Rattle.node.specs.Calls.{toldAnswer, answered, tickAnswer, Kept, Ticks, releasedOn, releaseOn, movedOn, stepOn, bytesFit}
+use Rattle.node.proofs.LayoutLaws.{written-back, tally-written-back}
+
+-- a test that fails fails with others
+pub no-more : (b : Bool) → b && false ≡ false
+no-more true = refl
+no-more false = refl
+
+-- what a refused step leaves
+abbrev pub stayed : List ℕ → List ℕ → ℕ → Ticks
+stayed bytes tally answer = record { answer = answer; state = bytes; tally = tally }
+
+-- A STEP that is refused by the scheduler
+pub step-stays : (bytes tally : List ℕ) (r : Refusal) → Octets bytes → Octets tally → encodes bytes ≡ true → length tally ≡ 12
+    → stepOf (stateIn bytes) (tallyIn tally) ≡ unmoved (stateIn bytes) (tallyIn tally) r → stepOn bytes tally ≡ stayed bytes tally (toldAnswer (toldOf r))
+unfolding stepOn
+step-stays bytes tally r o q e l s =
+    rw (e, eq-eqb (length tally) 12 l, s, written-back bytes e o, tally-written-back tally l q)
+
+-- because its tally has another length
+pub step-short : (bytes tally : List ℕ) → (length tally ≡ 12 → ⊥) → stepOn bytes tally ≡ stayed bytes tally 6
+unfolding stepOn
+step-short bytes tally n = rw (ne-eqb (length tally) 12 n, no-more (encodes bytes))
+
+-- because its bytes encode no state, or one that breaks a rule
+pub step-unfit : (bytes tally : List ℕ) → Octets bytes → Octets tally → length tally ≡ 12 → bytesFit bytes ≡ false → stepOn bytes tally ≡ stayed bytes tally 6
+unfolding stepOn stepOf
+step-unfit bytes tally o q l f = go (encodes bytes) refl
+  where
+    go : (b : Bool) → encodes bytes ≡ b → stepOn bytes tally ≡ stayed bytes tally 6
+    go false e = rw e
+    go true e = let g : stateFits (stateIn bytes) ≡ false = rw e at f in step-stays bytes tally refusal.Rules o q e l (rw g)
+
+-- A STEP THAT IS MADE
+pub step-moves : (bytes tally : List ℕ) → bytesFit bytes ≡ true → length tally ≡ 12 → tallyFits (tallyIn tally) (wordIn bytes 5) ≡ true → wordIn bytes 5 < clockEnd
+    → stepOn bytes tally ≡ movedOn (made (stateIn bytes) (tallyIn tally) (tickOf (stateIn bytes)))
+unfolding stepOn stepOf
+step-moves bytes tally f l c b =
+    let p = and-eq-true-iff (encodes bytes) (stateFits (stateIn bytes)) .0 f in
+    rw (p .0, eq-eqb (length tally) 12 l, p .1, c, lt-leb clockEnd (wordIn bytes 5) b)
+
+-- A RELEASE that is refused
+pub release-stays : (bytes : List ℕ) (task demand : ℕ) (r : Refusal) → Octets bytes → encodes bytes ≡ true
+    → releaseAnswer (stateIn bytes) task demand ≡ Refused r → releaseOn bytes task demand ≡ record { answer = toldAnswer (toldOf r); state = bytes }
+unfolding releaseOn
+release-stays bytes task demand r o e s = rw (e, s, written-back bytes e o)
+
+pub release-unfit : (bytes : List ℕ) (task demand : ℕ) → Octets bytes → bytesFit bytes ≡ false → releaseOn bytes task demand ≡ record { answer = 6; state = bytes }
+unfolding releaseOn releaseAnswer
+release-unfit bytes task demand o f = go (encodes bytes) refl
+  where
+    go : (b : Bool) → encodes bytes ≡ b → releaseOn bytes task demand ≡ record { answer = 6; state = bytes }
+    go false e = rw e
+    go true e = let g : stateFits (stateIn bytes) ≡ false = rw e at f in release-stays bytes task demand refusal.Rules o e (rw g)
+
+-- A RELEASE THAT IS ACCEPTED
+pub release-takes : (bytes : List ℕ) (task demand : ℕ) → encodes bytes ≡ true
+    → releaseAnswer (stateIn bytes) task demand ≡ Accepted → releaseOn bytes task demand ≡ record { answer = 0; state = stateBytes (releasedState (stateIn bytes) task demand) }
+unfolding releaseOn
+release-takes bytes task demand e s = rw (e, s)
+
+-- A STEP whose tally does not sum to the clock, and one at the clock's end
+pub step-uncounted : (bytes tally : List ℕ) → Octets bytes → Octets tally → bytesFit bytes ≡ true → length tally ≡ 12 → tallyFits (tallyIn tally) (wordIn bytes 5) ≡ false
+    → stepOn bytes tally ≡ stayed bytes tally 6
+unfolding stepOf
+step-uncounted bytes tally o q f l c =
+    let p = and-eq-true-iff (encodes bytes) (stateFits (stateIn bytes)) .0 f in
+    step-stays bytes tally refusal.Rules o q (p .0) l (rw (p .1, c))
+
+pub step-ended : (bytes tally : List ℕ) → Octets bytes → Octets tally → bytesFit bytes ≡ true → length tally ≡ 12 → tallyFits (tallyIn tally) (wordIn bytes 5) ≡ true
+    → clockEnd ≤ wordIn bytes 5 → stepOn bytes tally ≡ stayed bytes tally 7
+unfolding stepOf
+step-ended bytes tally o q f l c b =
+    let p = and-eq-true-iff (encodes bytes) (stateFits (stateIn bytes)) .0 f in
+    step-stays bytes tally refusal.ClockEnd o q (p .0) l (rw (p .1, c, le-leb clockEnd (wordIn bytes 5) b))

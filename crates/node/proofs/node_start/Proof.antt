@@ -1,0 +1,54 @@
+-- `node::node_start` meets its contract: the table first, then the buffer.
+use borrow.Author.Tests.{eq-eqb, ne-eqb}
+use mathlib.Core.Path.{_≡_, refl, sym, _∙_}
+use lib.ListN.{length}
+use borrow.Author.Needs.{needs}
+use Rattle.node.proofs.node_start.Statement.{statement}
+use Rattle.node.proofs.node_start.Tie as tie
+
+start-requires : tie.Need-start-requires
+start-requires c κs = search needs
+
+enum-told : tie.Need-enum-told
+enum-told c = search needs
+
+six-requires : tie.Need-six-requires
+six-requires c κs = search needs
+
+returns : tie.Need-returns
+returns c = let a = c .before .before .before .before .before .before .before .args in
+    rw (← c .before .before .before .before .start .ensures, c .before .before .enum-told .given .1, ne-eqb (length (a .state .now)) 600 (c .before .if1 .taken)) (c .six .ensures, refl)
+
+put-state-requires : tie.Need-put-state-requires
+put-state-requires c κs = search needs
+
+enum-known-answer : tie.Need-enum-known-answer
+enum-known-answer c = search needs
+
+refused-requires : tie.Need-refused-requires
+refused-requires c κs = search needs
+
+same-length : tie.Need-same-length
+same-length c = search needs
+
+returns-2 : tie.Need-returns-2
+returns-2 c = let a = c .before .before .before .before .before .before .before .before .before .before .args in
+    rw (← c .before .before .before .before .before .before .before .start .ensures, c .before .before .before .before .before .enum-told .given .1, eq-eqb (length (a .state .now)) 600 (c .before .before .before .before .if1 .left)) (refl, c .before .before .put-state .ensures)
+
+returns-3 : tie.Need-returns-3
+returns-3 c = rw (← c .before .before .before .before .start .ensures, c .before .before .answer .given .1) (c .refused .ensures, refl)
+
+pub node-start-spec : {M : Type 1} → statement M
+node-start-spec =
+    tie.close
+    (tie.spec
+    start-requires
+    enum-told
+    six-requires
+    returns
+    put-state-requires
+    enum-known-answer
+    refused-requires
+    same-length
+    returns-2
+    returns-3)

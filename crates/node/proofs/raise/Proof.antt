@@ -1,0 +1,68 @@
+-- `node::raise` meets its contract: the count of the tick, one up.
+use mathlib.Core.Path.{_≡_, sym, _∙_, ap}
+use Rattle.scheduler.specs.declared.Tick.{Tick}
+use Rattle.scheduler.specs.Steps.{raised}
+use Rattle.node.specs.Words.{Octets}
+use Rattle.node.specs.Layout.{tallyIn, tallyBytes}
+use Rattle.node.proofs.PutLaws.{count-put}
+use Rattle.scheduler.specs.declared.Tick.the-variants.{Run, Slot, Tail}
+use borrow.Author.Needs.{needs}
+use Rattle.node.proofs.raise.Statement.{statement}
+use Rattle.node.proofs.raise.Tie as tie
+
+-- the bytes at entry are bytes
+octets : (c : tie.After-slice-known) → Octets (c .before .args .tally .now)
+octets c = record { below = λ i. c .slice-known .given i .fits }
+
+enum-told : tie.Need-enum-told
+enum-told c = search needs
+
+raise-word-requires : tie.Need-raise-word-requires
+raise-word-requires c κs = search needs
+
+enum-told-2 : tie.Need-enum-told-2
+enum-told-2 c = search needs
+
+raise-word-requires-2 : tie.Need-raise-word-requires-2
+raise-word-requires-2 c κs = search needs
+
+enum-told-3 : tie.Need-enum-told-3
+enum-told-3 c = search needs
+
+raise-word-requires-3 : tie.Need-raise-word-requires-3
+raise-word-requires-3 c κs = search needs
+
+same-length : tie.Need-same-length
+same-length c = search needs
+
+returns : tie.Need-returns
+returns c = let k = c .before .before .before .before .before .before in let a = k .before .args in rw (c .before .before .before .before .enum-told .given .1) (c .before .before .raise-word .ensures ∙ count-put (a .tally .now) (Run 0) (k .before .pre .0) (octets k))
+
+same-length-2 : tie.Need-same-length-2
+same-length-2 c = search needs
+
+returns-2 : tie.Need-returns-2
+returns-2 c = let k = c .before .before .before .before .before .before in let a = k .before .args in rw (c .before .before .before .before .enum-told2 .given .1) (c .before .before .raise-word2 .ensures ∙ count-put (a .tally .now) Slot (k .before .pre .0) (octets k))
+
+same-length-3 : tie.Need-same-length-3
+same-length-3 c = search needs
+
+returns-3 : tie.Need-returns-3
+returns-3 c = let k = c .before .before .before .before .before .before in let a = k .before .args in rw (c .before .before .before .before .enum-told3 .given .1) (c .before .before .raise-word3 .ensures ∙ count-put (a .tally .now) Tail (k .before .pre .0) (octets k))
+
+pub raise-spec : {M : Type 1} → statement M
+raise-spec =
+    tie.close
+    (tie.spec
+    enum-told
+    raise-word-requires
+    enum-told-2
+    raise-word-requires-2
+    enum-told-3
+    raise-word-requires-3
+    same-length
+    returns
+    same-length-2
+    returns-2
+    same-length-3
+    returns-3)

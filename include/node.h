@@ -1,0 +1,94 @@
+/* node.h: the scheduler of a battery node, for firmware in C or C++.
+ *
+ * Link with libnode.a (`rt staticlib node`). Nothing is kept between calls and nothing is
+ * allocated: the state and the tally lie in buffers that the caller lends, so they may lie in
+ * memory that survives a stop. Any bytes, lengths and numbers may be handed in. A pointer must
+ * lead to as many bytes as its length says, and buffers of one call must not overlap.
+ *
+ * Every call gives one answer, a number of 64 bits. Its low byte is 0 where the call was accepted,
+ * else the refusal's number; above it stands what comes back, read by the functions below. A
+ * refused call leaves every buffer as it was (but for the verdict under refusal 5). Where several
+ * refusals apply the lowest number is given. A buffer of another length than its own, and bytes
+ * that encode no state, get 6.
+ *
+ *   1  the table's length is no multiple of 16, or not 2 to 17 records
+ *   2  a record breaks 1 <= work <= period <= 60,000 or its reserved field is not 0
+ *   3  a task's period is below that of the task before
+ *   4  the sleep time is the harmonizing period, or the first task's period is no multiple of it
+ *   5  a task has no window
+ *   6  a state or tally breaks a rule, or is no state or tally at all
+ *   7  the clock stands at 1,000,000,000
+ *   8  no task of that number
+ *   9  the demand is not 1 to the task's work
+ *  10  task 1 released off a multiple of the harmonizing period
+ *  11  that task is still working
+ *  12  its last release is fewer than its period ago
+ *  13  a power figure is above 1,000,000 microwatts
+ */
+#ifndef LUNDZARGEL_NODE_H
+#define LUNDZARGEL_NODE_H
+
+#include <stddef.h>
+#include <stdint.h>
+
+#ifdef __cplusplus
+extern "C" {
+#endif
+
+enum {
+    NODE_PLACES = 16,         /* the most tasks */
+    NODE_RECORD_BYTES = 16,   /* of a table: label, work, period, a reserved 0 */
+    NODE_TABLE_BYTES = 272,   /* the longest table: the sleep record and 16 tasks */
+    NODE_STATE_BYTES = 600,   /* a state: 150 words */
+    NODE_TALLY_BYTES = 12,    /* a tally: the ticks of kind run, slot and tail */
+    NODE_VERDICT_BYTES = 192  /* a verdict: 16 windows, 16 figures, 16 rounds */
+};
+
+/* What a tick was. */
+enum { NODE_RUN = 0, NODE_SLOT = 1, NODE_TAIL = 2 };
+
+/* All buffers hold 32-bit words, low byte first (little-endian).
+ *
+ * State, by word:
+ *   0 to 3   the sleep record: label, work S, period H, reserved
+ *   4        n, the number of tasks
+ *   5        the clock
+ *   6 + 9 i  the task at place i, from 0 to 15: label, work, period, reserved;
+ *            1 at work, 0 resting; its release tick and its work left, 0 and 0 where it rests;
+ *            1 released before, 0 never; its last release tick, 0 where never
+ * Tally: run, slot and tail ticks. A tally of zeros is lent first, then the same to each step.
+ * Verdict: by task from place 0 on, the windows, then the figures, then the rounds.
+ */
+
+/* The admission test. Admitted: place is the number of tasks. Refusals 1 to 5: place is the record
+ * (1 to 4) or the task (5), rounds what was spent on that task. The verdict is written where the
+ * test was made, that is, where the set is admitted or gets 5, with zeros from the failing task on;
+ * under 1 to 4 and under 6 it is unchanged. */
+uint64_t node_admit(const uint8_t *table, size_t table_bytes, uint8_t *verdict, size_t verdict_bytes);
+
+/* A fresh state of a table. Refusals 1 to 4, place the record, and 6. */
+uint64_t node_start(const uint8_t *table, size_t table_bytes, uint8_t *state, size_t state_bytes);
+
+/* A release of a task, from 1, at the state's clock. Refusals 6 to 12. */
+uint64_t node_release(uint8_t *state, size_t state_bytes, uint32_t task, uint32_t demand);
+
+/* One tick: kind is NODE_RUN, NODE_SLOT or NODE_TAIL, task the one that ran, from 1. The state goes
+ * one tick on and the tally's count up by one. Refusals 6 and 7. */
+uint64_t node_step(uint8_t *state, size_t state_bytes, uint8_t *tally, size_t tally_bytes);
+
+/* The energy of a tally in nanojoules, powers in microwatts. Refusals 6 and 13, with energy 0. */
+uint64_t node_energy(const uint8_t *tally, size_t tally_bytes, uint32_t run_power, uint32_t sleep_power);
+
+/* The parts of an answer. */
+static inline uint32_t node_number(uint64_t answer) { return (uint32_t)(answer & 0xff); }
+static inline uint32_t node_place(uint64_t answer) { return (uint32_t)(answer >> 8 & 0xff); }
+static inline uint32_t node_rounds(uint64_t answer) { return (uint32_t)(answer >> 16); }
+static inline uint32_t node_kind(uint64_t answer) { return (uint32_t)(answer >> 8 & 0xff); }
+static inline uint32_t node_task(uint64_t answer) { return (uint32_t)(answer >> 16); }
+static inline uint64_t node_nanojoules(uint64_t answer) { return answer >> 8; }
+
+#ifdef __cplusplus
+}
+#endif
+
+#endif
