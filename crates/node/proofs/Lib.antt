@@ -8,3 +8,5 @@ pub mod PutLaws
 pub mod MovedLaws
 -- the calls on bytes by their cases
 pub mod OnLaws
+-- what is saved is read back, and histories go on from it
+pub mod SavedLaws

@@ -1,13 +1,13 @@
 -- The calls on bytes by their cases: what is refused leaves the bytes as they are, what is accepted leaves the bytes of
 -- the state and the tally behind it.
-use Prim.Native.Nat.{ℕ, _+_, _-_, _≤_, _<_}
+use Prim.Native.Nat.{ℕ, _+_, _-_, _%_, _≤_, _<_}
 use mathlib.Core.Path.{_≡_, refl, sym, _∙_, ap}
 use mathlib.Core.List.{List}
 use mathlib.Core.Bool.{Bool, true, false, cond, _&&_, and-eq-true-iff}
 use native.Mathlib.Omega.{arith}
 use lib.Dec.{eqb}
 use lib.ListN.{length}
-use borrow.Author.Tests.{lt-leb, le-leb, eq-eqb, ne-eqb}
+use borrow.Author.Tests.{lt-leb, le-leb, eq-eqb, ne-eqb, eqb-true}
 use Rattle.table.specs.declared.Refusal.{Refusal}
 use Rattle.table.specs.declared.Refusal.the-variants as refusal
 use Rattle.table.specs.Refusals.{toldOf}
@@ -16,6 +16,9 @@ use Rattle.scheduler.specs.declared.Tally.{Tally}
 use Rattle.scheduler.specs.declared.Answer.{Answer}
 use Rattle.scheduler.specs.declared.Answer.the-variants.{Accepted, Refused}
 use Rattle.scheduler.specs.declared.Moved.{Moved}
+use Rattle.scheduler.specs.declared.Tick.{Tick}
+use Rattle.scheduler.specs.declared.Tick.the-variants.{Run, Slot, Tail}
+use Rattle.scheduler.proofs.CallLaws.{Step-is, moves, stays, step-is}
 use Rattle.scheduler.specs.declared.Released.{Released}
 use Rattle.scheduler.specs.States.{clockEnd, stateFits, tallyFits}
 use Rattle.scheduler.specs.Releases.{releaseAnswer, releasedFrom, releasedState, releaseOf}
@@ -97,3 +100,41 @@ unfolding stepOf
 step-ended bytes tally o q f l c b =
     let p = and-eq-true-iff (encodes bytes) (stateFits (stateIn bytes)) .0 f in
     step-stays bytes tally refusal.ClockEnd o q (p .0) l (rw (p .1, c, le-leb clockEnd (wordIn bytes 5) b))
+
+-- AN ANSWER WITH A NUMBER leaves the bytes
+pub release-leaves : (bytes : List ℕ) (task demand : ℕ) → Octets bytes → 1 ≤ releaseOn bytes task demand .answer % 256 → releaseOn bytes task demand .state ≡ bytes
+release-leaves bytes task demand o r = go (encodes bytes) refl (releaseAnswer (stateIn bytes) task demand) refl
+  where
+    go : (b : Bool) → encodes bytes ≡ b → (a : Answer) → releaseAnswer (stateIn bytes) task demand ≡ a → releaseOn bytes task demand .state ≡ bytes
+    go false e a q = ap {A = Kept} (λ k. k .state) (release-unfit bytes task demand o (rw e))
+    go true e (Refused f) q = ap {A = Kept} (λ k. k .state) (release-stays bytes task demand f o e q)
+    go true e Accepted q =
+        let k = release-takes bytes task demand e q in
+        let z : 1 ≤ 0 % 256 = rw k at r in
+        absurd (let y : ⊥ = omega arith in y)
+
+pub step-leaves : (bytes tally : List ℕ) → Octets bytes → Octets tally → 1 ≤ stepOn bytes tally .answer % 256
+    → (stepOn bytes tally .state ≡ bytes) × (stepOn bytes tally .tally ≡ tally)
+step-leaves bytes tally o q r = by-length (eqb (length tally) 12) refl
+  where
+    both : (answer : ℕ) → stepOn bytes tally ≡ stayed bytes tally answer → (stepOn bytes tally .state ≡ bytes) × (stepOn bytes tally .tally ≡ tally)
+    both answer e = (ap {A = Ticks} (λ k. k .state) e, ap {A = Ticks} (λ k. k .tally) e)
+
+    none : (tick : Tick) → 1 ≤ tickAnswer tick % 256 → ⊥
+    none (Run k) l = let e : tickAnswer (Run k) % 256 ≡ 0 = omega arith in omega arith
+    none Slot l = omega arith
+    none Tail l = omega arith
+
+    by-step : encodes bytes ≡ true → length tally ≡ 12 → Step-is (stateIn bytes) (tallyIn tally) → (stepOn bytes tally .state ≡ bytes) × (stepOn bytes tally .tally ≡ tally)
+    by-step e l (stays f s) = both (toldAnswer (toldOf f)) (step-stays bytes tally f o q e l s)
+    by-step e l (moves f c b s) =
+        let k = step-moves bytes tally (rw (e, f)) l c b in
+        absurd (none (tickOf (stateIn bytes)) (rw k at r))
+
+    by-coded : length tally ≡ 12 → (b : Bool) → encodes bytes ≡ b → (stepOn bytes tally .state ≡ bytes) × (stepOn bytes tally .tally ≡ tally)
+    by-coded l false e = both 6 (step-unfit bytes tally o q l (rw e))
+    by-coded l true e = by-step e l (step-is (stateIn bytes) (tallyIn tally))
+
+    by-length : (b : Bool) → eqb (length tally) 12 ≡ b → (stepOn bytes tally .state ≡ bytes) × (stepOn bytes tally .tally ≡ tally)
+    by-length true e = by-coded (eqb-true (length tally) 12 e) (encodes bytes) refl
+    by-length false e = both 6 (step-short bytes tally (λ l. let t = eq-eqb (length tally) 12 l in let z : _≡_ {A = ℕ} 0 1 = cc in omega arith))

@@ -4,3 +4,5 @@ pub mod Words
 pub mod Layout
 -- what each call gives on any bytes
 pub mod Calls
+-- a state saved and restored
+pub mod Saved
