@@ -8,7 +8,7 @@ use native.Mathlib.Omega.{arith}
 use lib.Dec.{ltb, eqb}
 use lib.ListN.{length, getD, length-append, List·getD-append}
 use lib.Seq.{getD-append-seam, ext-getD}
-use borrow.Author.Tests.{lt-ltb, le-ltb, eq-eqb, eqb-true}
+use borrow.Author.Tests.{lt-ltb, le-ltb, eq-eqb, ne-eqb, eqb-true}
 use Rattle.theory.specs.Split.{by-eq, by-lt}
 use Rattle.table.specs.declared.Record.{Record}
 use Rattle.table.specs.Sound.{places}
@@ -19,10 +19,10 @@ use Rattle.scheduler.specs.declared.Last.the-variants.{Never, At}
 use Rattle.scheduler.specs.declared.Entry.{Entry}
 use Rattle.scheduler.specs.declared.State.{State}
 use Rattle.scheduler.specs.declared.Tally.{Tally}
-use Rattle.scheduler.specs.States.{noEntry, entryIn, every}
+use Rattle.scheduler.specs.States.{noEntry, entryIn, every, zeroed, restsNever, spareFits}
 use Rattle.scheduler.proofs.EveryLaws.{every-says, says-every}
 use Rattle.node.specs.Words.{bytesFrom, wordIn, Octets}
-use Rattle.node.specs.Layout.{recordWords, jobWords, lastWords, entryWords, headWords, stateWord, stateBytes, tallyWord, tallyBytes, jobFrom, lastFrom, entryFrom, listFrom, entriesFrom, entriesIn, stateFrom, stateIn, tallyIn, kindCodes, placeCodes, encodes, countsIn, Held}
+use Rattle.node.specs.Layout.{recordWords, jobWords, lastWords, entryWords, headWords, stateWord, stateBytes, tallyWord, tallyBytes, jobFrom, lastFrom, entryFrom, listFrom, entriesFrom, entriesIn, stateFrom, stateIn, tallyIn, kindCodes, placeCodes, placeBlank, encodes, countsIn, Held}
 use Rattle.node.proofs.WordLaws.{length-bytes, word-back, bytes-back, bytes-same}
 
 -- a list by its numbers
@@ -199,3 +199,37 @@ pub tally-read-back : (t : Tally) → ((k : ℕ) → k < 3 → tallyWord t k < 2
 tally-read-back t small =
     let b : (k : ℕ) → k < 3 → wordIn (tallyBytes t) k ≡ tallyWord t k = λ k l. word-back (tallyWord t) 3 k l (small k l) in
     rw (b 0 (omega arith), b 1 (omega arith), b 2 (omega arith))
+
+-- A SPARE PLACE, encoded, is nine words that are 0
+rests-blank : (kind a l kind' a' : ℕ) → kindCodes kind a l && kindCodes kind' a' 0 ≡ true → restsNever (jobFrom kind a l) (lastFrom kind' a') ≡ true
+    → kind + a + l + (kind' + a') ≡ 0
+rests-blank zero a l zero a' c r =
+    let b = and-eq-true-iff (eqb a 0 && eqb l 0) (eqb a' 0 && true) .0 c in
+    let j = and-eq-true-iff (eqb a 0) (eqb l 0) .0 (b .0) in
+    let t = and-eq-true-iff (eqb a' 0) true .0 (b .1) in
+    omega (arith, eqb-true a 0 (j .0), eqb-true l 0 (j .1), eqb-true a' 0 (t .0))
+rests-blank zero a l (suc kind') a' c r = let z : _≡_ {A = ℕ} 0 1 = cc in absurd (let y : ⊥ = omega arith in y)
+rests-blank (suc kind) a l kind' a' c r = let z : _≡_ {A = ℕ} 0 1 = cc in absurd (let y : ⊥ = omega arith in y)
+
+pub spare-blank : (word : ℕ → ℕ) (k : ℕ) → placeCodes word k && spareFits (entryFrom word k) ≡ placeBlank word k
+spare-blank word k = by-eq sum 0 (placeCodes word k && spareFits (entryFrom word k) ≡ placeBlank word k)
+    (λ z. zeros (omega arith) (omega arith) (omega arith) (omega arith) (omega arith) (omega arith) (omega arith) (omega arith) (omega arith) ∙ sym (eq-eqb sum 0 z))
+    (λ n. some n (placeCodes word k && spareFits (entryFrom word k)) refl ∙ sym (ne-eqb sum 0 n))
+  where
+    sum : ℕ
+    sum = word k + word (k + 1) + word (k + 2) + word (k + 3) + (word (k + 4) + word (k + 5) + word (k + 6)) + (word (k + 7) + word (k + 8))
+
+    zeros : word k ≡ 0 → word (k + 1) ≡ 0 → word (k + 2) ≡ 0 → word (k + 3) ≡ 0 → word (k + 4) ≡ 0 → word (k + 5) ≡ 0 → word (k + 6) ≡ 0 → word (k + 7) ≡ 0 → word (k + 8) ≡ 0
+        → placeCodes word k && spareFits (entryFrom word k) ≡ true
+    zeros a b c d e f g h i = rw (a, b, c, d, e, f, g, h, i)
+
+    some : (sum ≡ 0 → ⊥) → (b : Bool) → placeCodes word k && spareFits (entryFrom word k) ≡ b → b ≡ false
+    some n false e = refl
+    some n true e =
+        let p = and-eq-true-iff (placeCodes word k) (spareFits (entryFrom word k)) .0 e in
+        let q = and-eq-true-iff (zeroed (entryFrom word k .task)) (restsNever (entryFrom word k .job) (entryFrom word k .last)) .0 (p .1) in
+        let r = rests-blank (word (k + 4)) (word (k + 5)) (word (k + 6)) (word (k + 7)) (word (k + 8)) (p .0) (q .1) in
+        let a = and-eq-true-iff (eqb (word k) 0 && eqb (word (k + 1)) 0 && eqb (word (k + 2)) 0) (eqb (word (k + 3)) 0) .0 (q .0) in
+        let b = and-eq-true-iff (eqb (word k) 0 && eqb (word (k + 1)) 0) (eqb (word (k + 2)) 0) .0 (a .0) in
+        let c = and-eq-true-iff (eqb (word k) 0) (eqb (word (k + 1)) 0) .0 (b .0) in
+        absurd (n (omega (arith, r, eqb-true (word k) 0 (c .0), eqb-true (word (k + 1)) 0 (c .1), eqb-true (word (k + 2)) 0 (b .1), eqb-true (word (k + 3)) 0 (a .1))))

@@ -115,7 +115,10 @@ energyOn tally run sleep = cond (countsIn tally) (readingAnswer (energyOf (tally
 abbrev pub bytesFit : List ℕ → Bool
 bytesFit bytes = encodes bytes && stateFits (stateIn bytes)
 
--- every place is encoded and keeps its rules
+-- place i is encoded and keeps its rules, behind one of period `above`
+abbrev pub placeFitsIn : List ℕ → ℕ → ℕ → ℕ → ℕ → ℕ → Bool
+placeFitsIn bytes n h clock i above = placeCodes (wordIn bytes) (6 + 9 * i) && placeFits n i above h clock (getD (entriesIn bytes) i noEntry)
+
+-- so is and does every place
 abbrev pub placesFitIn : List ℕ → ℕ → ℕ → ℕ → Bool
-placesFitIn bytes n h clock =
-    every (λ i. placeCodes (wordIn bytes) (6 + 9 * i) && placeFits n i (periodBefore (entriesIn bytes) i) h clock (getD (entriesIn bytes) i noEntry)) places
+placesFitIn bytes n h clock = every (λ i. placeFitsIn bytes n h clock i (periodBefore (entriesIn bytes) i)) places

@@ -109,6 +109,11 @@ kindCodes kind a b = eqb kind 1 || (eqb kind 0 && eqb a 0 && eqb b 0)
 abbrev pub placeCodes : (ℕ → ℕ) → ℕ → Bool
 placeCodes word k = kindCodes (word (k + 4)) (word (k + 5)) (word (k + 6)) && kindCodes (word (k + 7)) (word (k + 8)) 0
 
+-- the nine words of a place are 0
+abbrev pub placeBlank : (ℕ → ℕ) → ℕ → Bool
+placeBlank word k =
+    eqb (word k + word (k + 1) + word (k + 2) + word (k + 3) + (word (k + 4) + word (k + 5) + word (k + 6)) + (word (k + 7) + word (k + 8))) 0
+
 -- THE BYTES ENCODE A STATE: there are 600, and every place is encoded
 unfoldable pub encodes : List ℕ → Bool
 encodes bytes = eqb (length bytes) 600 && every (λ i. placeCodes (wordIn bytes) (6 + 9 * i)) places

@@ -12,8 +12,8 @@ ghost use Rattle.scheduler.specs.States.{noEntry};
 ghost use Rattle.scheduler.specs.Steps.{came, behind, raised, tickOf};
 ghost use Rattle.scheduler.specs.Releases.{releasedState};
 ghost use Rattle.node.specs.Words.{wordIn, putWord, putWords};
-ghost use Rattle.node.specs.Layout.{recordFrom, recordWords, jobFrom, jobWords, lastFrom, lastWords, entryWords, listFrom, kindCodes, placeCodes, entriesIn, stateIn, stateBytes, tallyIn, tallyBytes, verdictBytes, encodes};
-ghost use Rattle.node.specs.Calls.{packed, toldAnswer, tickAnswer, admitOn, startOn, bytesFit, placesFitIn, releaseOn, stepOn, energyOn};
+ghost use Rattle.node.specs.Layout.{recordFrom, recordWords, jobFrom, jobWords, lastFrom, lastWords, entryWords, listFrom, kindCodes, placeCodes, placeBlank, entriesIn, stateIn, stateBytes, tallyIn, tallyBytes, verdictBytes, encodes};
+ghost use Rattle.node.specs.Calls.{packed, toldAnswer, tickAnswer, admitOn, startOn, bytesFit, placeFitsIn, placesFitIn, releaseOn, stepOn, energyOn};
 use admission::Verdict;
 use admission::admit;
 use scheduler::Answer;
@@ -237,18 +237,45 @@ fn places_fit_in(state: &[u8], n: u32, h: u32, clock: u32) -> bool
     let mut above: u32 = 0;
     let mut i: u32 = 0;
     while i < MOST_TASKS {
-        if !codes(state, i) {
+        if !place_fits_in(state, n, i, above, h, clock) {
             return false;
         }
-        let e = entry_at(state, i as usize);
-        if !place_fits(e, n, i, above, h, clock) {
-            return false;
-        }
-        let task = e.task;
-        above = task.period;
+        above = word_at(state, 4 * (HEAD_WORDS + PLACE_WORDS * i as usize + 2));
         i += 1;
     }
     true
+}
+
+// The same of one place.
+fn place_fits_in(state: &[u8], n: u32, i: u32, above: u32, h: u32, clock: u32) -> bool
+    requires { ⌜ i < 16 ⌝ }
+    ensures { λ r. ⌜ r ≡ placeFitsIn (now (state .entry)) n h clock i above ⌝ }
+{
+    if n <= i {
+        return blank(state, i);
+    }
+    if !codes(state, i) {
+        return false;
+    }
+    let e = place_at(state, i as usize);
+    place_fits(e, n, i, above, h, clock)
+}
+
+// Whether all words of place i are 0: that is a spare place, encoded.
+fn blank(state: &[u8], i: u32) -> bool
+    requires { ⌜ i < 16 ⌝ }
+    ensures { λ r. ⌜ r ≡ placeBlank (wordIn (now (state .entry))) (6 + 9 * i) ⌝ }
+{
+    let at = HEAD_WORDS + PLACE_WORDS * i as usize;
+    let task = word_at(state, 4 * at) as u64
+        + word_at(state, 4 * (at + 1)) as u64
+        + word_at(state, 4 * (at + 2)) as u64
+        + word_at(state, 4 * (at + 3)) as u64;
+    let job = word_at(state, 4 * (at + 4)) as u64
+        + word_at(state, 4 * (at + 5)) as u64
+        + word_at(state, 4 * (at + 6)) as u64;
+    let last = word_at(state, 4 * (at + 7)) as u64 + word_at(state, 4 * (at + 8)) as u64;
+    task + job + last == 0
 }
 
 // Whether the words of place i encode an entry: kinds 0 or 1, and zeros where a kind has no more.
@@ -313,6 +340,14 @@ fn entry_at(state: &[u8], i: usize) -> Entry
             last: Last::Never,
         };
     }
+    place_at(state, i)
+}
+
+// The entry at a place that there is.
+fn place_at(state: &[u8], i: usize) -> Entry
+    requires { ⌜ i < 16 ⌝ }
+    ensures { λ r. ⌜ r ≡ getD (entriesIn (now (state .entry))) i noEntry ⌝ }
+{
     let at = HEAD_WORDS + PLACE_WORDS * i;
     let task = record_in(state, at);
     let job = job_of(
@@ -400,7 +435,7 @@ fn first_ready_in(state: &[u8], n: u32, boundary: u32) -> u32
 {
     let mut i: u32 = 0;
     while i < n {
-        let e = entry_at(state, i as usize);
+        let e = place_at(state, i as usize);
         let job = e.job;
         if came_by(job, boundary) {
             return i;

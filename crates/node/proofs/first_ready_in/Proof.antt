@@ -26,16 +26,16 @@ abbrev μ-loop : tie.MeasureT-loop
 -- what was asked of place i
 asked : (c : tie.After-came-by Inv-loop μ-loop)
     → c .came-by .result ≡ camePlace (c .before .before .before .before .before .args .boundary) (c .before .before .before .before .before .args .state .now) (c .before .before .before .loop .i)
-asked c = c .came-by .ensures ∙ rw (c .before .entry-at .ensures)
+asked c = c .came-by .ensures ∙ rw (c .before .place-at .ensures)
 
 loop-holds : tie.Need-loop-holds Inv-loop μ-loop
 loop-holds c = (omega arith, (let e : c .before .args .n - 0 ≡ c .before .args .n = omega arith in rw e))
 
-cast-entry-at : tie.Need-cast-entry-at Inv-loop μ-loop
-cast-entry-at c = search needs
+cast-place-at : tie.Need-cast-place-at Inv-loop μ-loop
+cast-place-at c = search needs
 
-entry-at-requires : tie.Need-entry-at-requires Inv-loop μ-loop
-entry-at-requires c κs = search needs
+place-at-requires : tie.Need-place-at-requires Inv-loop μ-loop
+place-at-requires c κs = search needs
 
 came-by-requires : tie.Need-came-by-requires Inv-loop μ-loop
 came-by-requires c κs = search needs
@@ -62,8 +62,8 @@ first-ready-in-spec =
     Inv-loop
     μ-loop
     loop-holds
-    cast-entry-at
-    entry-at-requires
+    cast-place-at
+    place-at-requires
     came-by-requires
     returns
     add-i

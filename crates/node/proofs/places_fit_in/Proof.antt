@@ -2,25 +2,25 @@
 use borrow.Author.Needs.{needs}
 use Prim.Native.Nat.{ℕ, _+_, _-_, _*_, _≤_}
 use borrow.Author.Tests.{not-true, not-false}
-use mathlib.Core.Bool.{Bool, true, _&&_}
+use mathlib.Core.Bool.{Bool, true}
 use mathlib.Core.List.{List}
-use mathlib.Core.Path.{_≡_, refl, sym, _∙_}
+use mathlib.Core.Path.{_≡_, refl, sym, _∙_, ap}
 use native.Mathlib.Numerals.{add-one}
 use native.Mathlib.Omega.{arith}
 use lib.ListN.{getD}
+use Rattle.scheduler.specs.declared.Entry.{Entry}
 use Rattle.scheduler.proofs.EveryLaws.{every-more, every-not}
-use Rattle.scheduler.specs.States.{noEntry, every, periodBefore, placeFits}
+use Rattle.scheduler.specs.States.{noEntry, every, periodBefore}
 use Rattle.node.specs.Words.{wordIn}
-use Rattle.node.specs.Layout.{placeCodes, entriesIn}
+use Rattle.node.specs.Layout.{entriesIn}
+use Rattle.node.specs.Calls.{placeFitsIn}
+use Rattle.node.proofs.LayoutLaws.{entry-is}
 use Rattle.node.proofs.places_fit_in.Statement.{statement}
 use Rattle.node.proofs.places_fit_in.Tie as tie
 
--- the rules of place i, and the whole test
-abbrev rules : ℕ → ℕ → ℕ → List ℕ → ℕ → Bool
-rules n h clock bytes i = placeFits n i (periodBefore (entriesIn bytes) i) h clock (getD (entriesIn bytes) i noEntry)
-
+-- the test of place i
 abbrev place : ℕ → ℕ → ℕ → List ℕ → ℕ → Bool
-place n h clock bytes i = placeCodes (wordIn bytes) (6 + 9 * i) && rules n h clock bytes i
+place n h clock bytes i = placeFitsIn bytes n h clock i (periodBefore (entriesIn bytes) i)
 
 abbrev Inv-loop : tie.InvT-loop
 Inv-loop state n h clock above₀ i₀ above i = (i ≤ 16) × (above ≡ periodBefore (entriesIn state) i) × (every (place n h clock state) i ≡ true)
@@ -29,39 +29,38 @@ abbrev μ-loop : tie.MeasureT-loop
 μ-loop state n h clock above₀ i₀ above i = 16 - i
 
 -- what was asked of place i
-coded : (c : tie.Else1 Inv-loop μ-loop)
-    → placeCodes (wordIn (c .before .before .before .before .before .args .state .now)) (6 + 9 * c .before .before .before .loop .i) ≡ true
-coded c = sym (c .before .codes .ensures) ∙ not-false _ (c .if1 .left)
-
-kept : (c : tie.After-place-fits Inv-loop μ-loop)
-    → let a = c .before .before .before .before .before .before .before .args in c .place-fits .result ≡ rules (a .n) (a .h) (a .clock) (a .state .now) (c .before .before .before .before .before .loop .i)
-kept c = c .place-fits .ensures ∙ rw (c .before .entry-at .ensures, c .before .before .before .before .before .loop .inv .1)
+asked : (c : tie.After-place-fits-in Inv-loop μ-loop)
+    → let a = c .before .before .before .before .args in c .place-fits-in .result ≡ place (a .n) (a .h) (a .clock) (a .state .now) (c .before .before .loop .i)
+asked c = c .place-fits-in .ensures ∙ rw (c .before .before .loop .inv .1)
 
 loop-holds : tie.Need-loop-holds Inv-loop μ-loop
 unfolding periodBefore every
 loop-holds c = (omega arith, refl, refl)
 
-codes-requires : tie.Need-codes-requires Inv-loop μ-loop
-codes-requires c κs = search needs
+place-fits-in-requires : tie.Need-place-fits-in-requires Inv-loop μ-loop
+place-fits-in-requires c κs = search needs
 
 returns : tie.Need-returns Inv-loop μ-loop
 returns c = let a = c .before .before .before .before .before .args in
-    let i = c .before .before .before .loop .i in
-    sym (every-not (place (a .n) (a .h) (a .clock) (a .state .now)) 16 i (omega arith) (rw (sym (c .before .codes .ensures) ∙ not-true _ (c .if1 .taken))))
+    sym (every-not (place (a .n) (a .h) (a .clock) (a .state .now)) 16 (c .before .before .before .loop .i) (omega arith) (sym (asked (c .before)) ∙ not-true _ (c .if1 .taken)))
 
-cast-entry-at : tie.Need-cast-entry-at Inv-loop μ-loop
-cast-entry-at c = search needs
+cast-word-at : tie.Need-cast-word-at Inv-loop μ-loop
+cast-word-at c = search needs
 
-entry-at-requires : tie.Need-entry-at-requires Inv-loop μ-loop
-entry-at-requires c κs = search needs
+mul-word-at : tie.Need-mul-word-at Inv-loop μ-loop
+mul-word-at c = search needs
 
-place-fits-requires : tie.Need-place-fits-requires Inv-loop μ-loop
-place-fits-requires c κs = search needs
+add-word-at : tie.Need-add-word-at Inv-loop μ-loop
+add-word-at c = search needs
 
-returns-2 : tie.Need-returns-2 Inv-loop μ-loop
-returns-2 c = let a = c .before .before .before .before .before .before .before .before .args in
-    let i = c .before .before .before .before .before .before .loop .i in
-    sym (every-not (place (a .n) (a .h) (a .clock) (a .state .now)) 16 i (omega arith) (rw (coded (c .before .before .before)) (sym (kept (c .before)) ∙ not-true _ (c .if2 .taken))))
+add-word-at-2 : tie.Need-add-word-at-2 Inv-loop μ-loop
+add-word-at-2 c = search needs
+
+mul-word-at-2 : tie.Need-mul-word-at-2 Inv-loop μ-loop
+mul-word-at-2 c = search needs
+
+word-at-requires : tie.Need-word-at-requires Inv-loop μ-loop
+word-at-requires c κs = search needs
 
 add-i : tie.Need-add-i Inv-loop μ-loop
 add-i c = search needs
@@ -71,12 +70,13 @@ loop-less c = search needs
 
 loop-again : tie.Need-loop-again Inv-loop μ-loop
 unfolding periodBefore
-loop-again c = let a = c .before .before .before .before .before .before .before .before .before .args in
-    let l = c .before .before .before .before .before .before .before .loop in
-    (omega arith, rw (add-one, c .before .before .before .entry-at .ensures), every-more (place (a .n) (a .h) (a .clock) (a .state .now)) (l .i) (l .inv .2) (rw (coded (c .before .before .before .before)) (sym (kept (c .before .before)) ∙ not-false _ (c .before .if2 .left))))
+loop-again c = let a = c .before .before .before .before .before .before .args in
+    let l = c .before .before .before .before .loop in
+    let e : c .word-at .result ≡ getD (entriesIn (a .state .now)) (l .i) noEntry .task .period = c .word-at .ensures ∙ sym (ap {A = Entry} (λ x. x .task .period) (entry-is (wordIn (a .state .now)) (l .i) (omega arith))) in
+    (omega arith, rw add-one e, every-more (place (a .n) (a .h) (a .clock) (a .state .now)) (l .i) (l .inv .2) (sym (asked (c .before .before)) ∙ not-false _ (c .before .if1 .left)))
 
-returns-3 : tie.Need-returns-3 Inv-loop μ-loop
-returns-3 c = let l = c .before .loop in let e : l .i ≡ 16 = omega arith in sym (rw e at (l .inv .2))
+returns-2 : tie.Need-returns-2 Inv-loop μ-loop
+returns-2 c = let l = c .before .loop in let e : l .i ≡ 16 = omega arith in sym (rw e at (l .inv .2))
 
 pub places-fit-in-spec : {M : Type 1} → statement M
 places-fit-in-spec =
@@ -85,13 +85,15 @@ places-fit-in-spec =
     Inv-loop
     μ-loop
     loop-holds
-    codes-requires
+    place-fits-in-requires
     returns
-    cast-entry-at
-    entry-at-requires
-    place-fits-requires
-    returns-2
+    cast-word-at
+    mul-word-at
+    add-word-at
+    add-word-at-2
+    mul-word-at-2
+    word-at-requires
     add-i
     loop-less
     loop-again
-    returns-3)
+    returns-2)
