@@ -1,15 +1,19 @@
 /* node.h: the scheduler of a battery node, for firmware in C or C++.
  *
- * Link with libnode.a (`rt staticlib node`). Nothing is kept between calls and nothing is
- * allocated: the state and the tally lie in buffers that the caller lends, so they may lie in
- * memory that survives a stop. Any bytes, lengths and numbers may be handed in. A pointer must
- * lead to as many bytes as its length says, and buffers of one call must not overlap.
+ * Link with libnode.a (`rt staticlib node`; x86-64 code). Nothing is kept between calls and nothing
+ * is allocated: the state and the tally lie in buffers that the caller lends, so they may lie in
+ * memory that survives a stop. Any bytes, lengths and numbers may be handed in. What the caller
+ * owes: a pointer that is not null and leads to as many bytes as its length says, and buffers of one
+ * call that do not overlap. A call takes less than 2,000 bytes of stack, a release or a step less
+ * than 200 (docs/PERFORMANCE.md).
  *
  * Every call gives one answer, a number of 64 bits. Its low byte is 0 where the call was accepted,
- * else the refusal's number; above it stands what comes back, read by the functions below. A
- * refused call leaves every buffer as it was (but for the verdict under refusal 5). Where several
- * refusals apply the lowest number is given. A buffer of another length than its own, and bytes
- * that encode no state, get 6.
+ * else the refusal's number; above it stands what comes back, read by the functions at the end, and
+ * zeros where nothing does. A refused call leaves every buffer as it was (but for the verdict under
+ * refusal 5). Where several refusals apply the lowest number is given. A buffer of another length
+ * than its own, and bytes that encode no state, get 6; so a buffer that was wiped is not mistaken
+ * for a state. Bytes that were damaged into another lawful state can't be told from it: memory that
+ * may be damaged wants a checksum of the caller's own.
  *
  *   1  the table's length is no multiple of 16, or not 2 to 17 records
  *   2  a record breaks 1 <= work <= period <= 60,000 or its reserved field is not 0
@@ -55,7 +59,9 @@ enum { NODE_RUN = 0, NODE_SLOT = 1, NODE_TAIL = 2 };
  *   5        the clock
  *   6 + 9 i  the task at place i, from 0 to 15: label, work, period, reserved;
  *            1 at work, 0 resting; its release tick and its work left, 0 and 0 where it rests;
- *            1 released before, 0 never; its last release tick, 0 where never
+ *            1 released before, 0 never; its last release tick, 0 where never.
+ *            Other kinds than 0 and 1, and anything but 0 where 0 is said, encode no state.
+ *            Behind the n tasks all nine words are 0
  * Tally: run, slot and tail ticks. A tally of zeros is lent first, then the same to each step.
  * Verdict: by task from place 0 on, the windows, then the figures, then the rounds.
  */
@@ -63,11 +69,15 @@ enum { NODE_RUN = 0, NODE_SLOT = 1, NODE_TAIL = 2 };
 /* The admission test. Admitted: place is the number of tasks. Refusals 1 to 5: place is the record
  * (1 to 4) or the task (5), rounds what was spent on that task. The verdict is written where the
  * test was made, that is, where the set is admitted or gets 5, with zeros from the failing task on;
- * under 1 to 4 and under 6 it is unchanged. */
-uint64_t node_admit(const uint8_t *table, size_t table_bytes, uint8_t *verdict, size_t verdict_bytes);
+ * under 1 to 4 it is unchanged. A verdict of another length is not written: an admitted set then
+ * gets 6, one that gets 1 to 5 keeps that number. */
+uint64_t node_admit(const uint8_t *table, size_t table_bytes,
+                    uint8_t *verdict, size_t verdict_bytes);
 
-/* A fresh state of a table. Refusals 1 to 4, place the record, and 6. */
-uint64_t node_start(const uint8_t *table, size_t table_bytes, uint8_t *state, size_t state_bytes);
+/* A fresh state of a table. Refusals 1 to 4, place the record, and 6: the buffer then holds what it
+ * held, perhaps an older state, so look at the answer. A set that gets 5 may be started. */
+uint64_t node_start(const uint8_t *table, size_t table_bytes,
+                    uint8_t *state, size_t state_bytes);
 
 /* A release of a task, from 1, at the state's clock. Refusals 6 to 12. */
 uint64_t node_release(uint8_t *state, size_t state_bytes, uint32_t task, uint32_t demand);
@@ -77,7 +87,8 @@ uint64_t node_release(uint8_t *state, size_t state_bytes, uint32_t task, uint32_
 uint64_t node_step(uint8_t *state, size_t state_bytes, uint8_t *tally, size_t tally_bytes);
 
 /* The energy of a tally in nanojoules, powers in microwatts. Refusals 6 and 13, with energy 0. */
-uint64_t node_energy(const uint8_t *tally, size_t tally_bytes, uint32_t run_power, uint32_t sleep_power);
+uint64_t node_energy(const uint8_t *tally, size_t tally_bytes,
+                     uint32_t run_power, uint32_t sleep_power);
 
 /* The parts of an answer. */
 static inline uint32_t node_number(uint64_t answer) { return (uint32_t)(answer & 0xff); }

@@ -1,9 +1,10 @@
 -- A state that lies in bytes, for firmware: reading back what was written, calls on bytes, and a stop in between. The calls
 -- of crate `node` are given by `admitOn`, `startOn`, `releaseOn`, `stepOn` and `energyOn` of its specs/Calls.antt.
-use Prim.Native.Nat.{ℕ, _%_, _^_, _<_, _≤_}
+use Prim.Native.Nat.{ℕ, _+_, _*_, _/_, _%_, _^_, _<_, _≤_}
 use mathlib.Core.Path.{_≡_, sym, _∙_, ap}
 use mathlib.Core.List.{List, _++_}
 use mathlib.Core.Bool.{true}
+use native.Mathlib.Omega.{arith}
 use lib.ListN.{length}
 use Rattle.table.specs.declared.Reading.the-variants as read
 use Rattle.table.specs.Sound.{readOf}
@@ -15,7 +16,7 @@ use Rattle.scheduler.specs.Steps.{stepOf}
 use Rattle.scheduler.specs.History.{Call, Past, after, begun, history}
 use Rattle.node.specs.Words.{Octets}
 use Rattle.node.specs.Layout.{stateBytes, tallyBytes, tallyWord, stateIn, tallyIn, encodes, countsIn, Held}
-use Rattle.node.specs.Calls.{Kept, Ticks, releasedOn, releaseOn, movedOn, stepOn}
+use Rattle.node.specs.Calls.{packed, Kept, Ticks, releasedOn, releaseOn, movedOn, stepOn}
 use Rattle.node.specs.Saved.{Buffers, calledAll, saved, restored}
 use Rattle.node.proofs.LayoutLaws as layout
 use Rattle.node.proofs.OnLaws as on
@@ -62,3 +63,11 @@ stop-changes-nothing table n before behind o e =
     rw e
     (ap (λ (p : Past). after p behind) (saving.restored-same (after (begun (freshState table n)) before) (saving.history-savable table n before o e))
     ∙ sym (saving.after-append (begun (freshState table n)) before behind))
+
+-- AN ANSWER is read back by its parts: the low byte, the byte above it, and the rest
+pub answer-reads-back : (number a b : ℕ) → number < 256 → a < 256 → (packed number a b % 256 ≡ number) × (packed number a b / 256 % 256 ≡ a) × (packed number a b / 65536 ≡ b)
+answer-reads-back number a b l m =
+    let up : packed number a b / 256 ≡ a + 256 * b = omega arith in
+    let top : packed number a b / 65536 ≡ b = omega arith in
+    let low : (a + 256 * b) % 256 ≡ a = omega arith in
+    ((let e : packed number a b % 256 ≡ number = omega arith in e), rw up low, top)
