@@ -3,9 +3,9 @@
  * Link with libnode.a (`rt staticlib node`; x86-64 code). Nothing is kept between calls and nothing
  * is allocated: the state and the tally lie in buffers that the caller lends, so they may lie in
  * memory that survives a stop. Any bytes, lengths and numbers may be handed in. What the caller
- * owes: a pointer that is not null and leads to as many bytes as its length says, and buffers of one
- * call that do not overlap. A call takes less than 2,000 bytes of stack, a release or a step less
- * than 200 (docs/PERFORMANCE.md).
+ * owes: a pointer that is not null and leads to as many bytes as its length says, and buffers of
+ * one call that do not overlap. A call takes less than 2,000 bytes of stack, a release or a step
+ * less than 200 (docs/PERFORMANCE.md).
  *
  * Every call gives one answer, a number of 64 bits. Its low byte is 0 where the call was accepted,
  * else the refusal's number; above it stands what comes back, read by the functions at the end, and
