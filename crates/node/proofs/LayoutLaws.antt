@@ -1,11 +1,11 @@
 -- Reading back what was written: a state of 16 places with 32-bit words is read back as it was, and bytes that encode a
 -- state are written back as they were. So with a tally.
-use Prim.Native.Nat.{ℕ, zero, suc, _+_, _-_, _*_, _/_, _%_, _≤_, _<_, _^_}
+use Prim.Native.Nat.{ℕ, zero, suc, _+_, _-_, _*_, _/_, _%_, _<_, _^_}
 use mathlib.Core.Path.{_≡_, refl, sym, _∙_, ap}
 use mathlib.Core.List.{List, [], _∷_, _++_}
-use mathlib.Core.Bool.{Bool, true, false, cond, _&&_, _||_, and-eq-true-iff}
+use mathlib.Core.Bool.{Bool, true, false, _&&_, _||_, and-eq-true-iff}
 use native.Mathlib.Omega.{arith}
-use lib.Dec.{ltb, eqb}
+use lib.Dec.{eqb}
 use lib.ListN.{length, getD, length-append, List·getD-append}
 use lib.Seq.{getD-append-seam, ext-getD}
 use borrow.Author.Tests.{lt-ltb, le-ltb, eq-eqb, ne-eqb, eqb-true}
@@ -19,10 +19,10 @@ use Rattle.scheduler.specs.declared.Last.the-variants.{Never, At}
 use Rattle.scheduler.specs.declared.Entry.{Entry}
 use Rattle.scheduler.specs.declared.State.{State}
 use Rattle.scheduler.specs.declared.Tally.{Tally}
-use Rattle.scheduler.specs.States.{noEntry, entryIn, every, zeroed, restsNever, spareFits}
+use Rattle.scheduler.specs.States.{noEntry, entryIn, zeroed, restsNever, spareFits}
 use Rattle.scheduler.proofs.EveryLaws.{every-says, says-every}
 use Rattle.node.specs.Words.{bytesFrom, wordIn, Octets}
-use Rattle.node.specs.Layout.{recordWords, jobWords, lastWords, entryWords, headWords, stateWord, stateBytes, tallyWord, tallyBytes, jobFrom, lastFrom, entryFrom, listFrom, entriesFrom, entriesIn, stateFrom, stateIn, tallyIn, kindCodes, placeCodes, placeBlank, encodes, countsIn, Held}
+use Rattle.node.specs.Layout.{recordWords, jobWords, lastWords, entryWords, headWords, stateWord, stateBytes, tallyWord, tallyBytes, jobFrom, lastFrom, entryFrom, listFrom, entriesFrom, stateFrom, stateIn, tallyIn, kindCodes, placeCodes, placeBlank, encodes, Held}
 use Rattle.node.proofs.WordLaws.{length-bytes, word-back, bytes-back, bytes-same}
 
 -- a list by its numbers

@@ -1,20 +1,17 @@
 -- What the calls on bytes know of the calls on states: a run is of one of the tasks, and energy has room above a number.
-use Prim.Native.Nat.{ℕ, _+_, _*_, _≤_, _<_}
-use mathlib.Core.Path.{_≡_, refl, sym, _∙_}
-use mathlib.Core.Bool.{Bool, true, false, cond, _||_}
+use Prim.Native.Nat.{ℕ, _+_, _*_, _≤_}
+use mathlib.Core.Path.{_≡_, refl}
+use mathlib.Core.Bool.{Bool, true, false}
 use native.Mathlib.Nat.{mul-le-mul}
 use native.Mathlib.Omega.{arith}
 use lib.Dec.{ltb}
 use borrow.Author.Tests.{ltb-false}
 use Rattle.scheduler.specs.declared.State.{State}
 use Rattle.scheduler.specs.declared.Tally.{Tally}
-use Rattle.scheduler.specs.declared.Tick.{Tick}
-use Rattle.scheduler.specs.declared.Tick.the-variants.{Run, Slot, Tail}
-use Rattle.scheduler.specs.declared.EnergyReading.{EnergyReading}
-use Rattle.scheduler.specs.declared.Answer.the-variants.{Accepted, Refused}
+use Rattle.scheduler.specs.declared.Tick.the-variants.{Run}
 use Rattle.scheduler.specs.States.{clockEnd}
 use Rattle.scheduler.specs.Steps.{firstReady, tickOf}
-use Rattle.scheduler.specs.Energies.{powerMost, energyIn, energyOf}
+use Rattle.scheduler.specs.Energies.{powerMost, energyOf}
 use Rattle.scheduler.proofs.CallLaws.{Tick-is, slots, runs, tails, tick-is}
 
 -- a run is of one of the tasks

@@ -1,9 +1,9 @@
 -- The calls on bytes by their cases: what is refused leaves the bytes as they are, what is accepted leaves the bytes of
 -- the state and the tally behind it.
-use Prim.Native.Nat.{ℕ, _+_, _-_, _%_, _≤_, _<_}
-use mathlib.Core.Path.{_≡_, refl, sym, _∙_, ap}
+use Prim.Native.Nat.{ℕ, _-_, _%_, _≤_, _<_}
+use mathlib.Core.Path.{_≡_, refl, ap}
 use mathlib.Core.List.{List}
-use mathlib.Core.Bool.{Bool, true, false, cond, _&&_, and-eq-true-iff}
+use mathlib.Core.Bool.{Bool, true, false, _&&_, and-eq-true-iff}
 use native.Mathlib.Omega.{arith}
 use lib.Dec.{eqb}
 use lib.ListN.{length}
@@ -11,21 +11,17 @@ use borrow.Author.Tests.{lt-leb, le-leb, eq-eqb, ne-eqb, eqb-true}
 use Rattle.table.specs.declared.Refusal.{Refusal}
 use Rattle.table.specs.declared.Refusal.the-variants as refusal
 use Rattle.table.specs.Refusals.{toldOf}
-use Rattle.scheduler.specs.declared.State.{State}
-use Rattle.scheduler.specs.declared.Tally.{Tally}
 use Rattle.scheduler.specs.declared.Answer.{Answer}
 use Rattle.scheduler.specs.declared.Answer.the-variants.{Accepted, Refused}
-use Rattle.scheduler.specs.declared.Moved.{Moved}
 use Rattle.scheduler.specs.declared.Tick.{Tick}
 use Rattle.scheduler.specs.declared.Tick.the-variants.{Run, Slot, Tail}
 use Rattle.scheduler.proofs.CallLaws.{Step-is, moves, stays, step-is}
-use Rattle.scheduler.specs.declared.Released.{Released}
 use Rattle.scheduler.specs.States.{clockEnd, stateFits, tallyFits}
-use Rattle.scheduler.specs.Releases.{releaseAnswer, releasedFrom, releasedState, releaseOf}
-use Rattle.scheduler.specs.Steps.{tickOf, behind, raised, made, unmoved, stepOf}
+use Rattle.scheduler.specs.Releases.{releaseAnswer, releasedState}
+use Rattle.scheduler.specs.Steps.{tickOf, behind, made, unmoved, stepOf}
 use Rattle.node.specs.Words.{wordIn, Octets}
-use Rattle.node.specs.Layout.{stateBytes, tallyBytes, stateIn, tallyIn, encodes, countsIn}
-use Rattle.node.specs.Calls.{toldAnswer, answered, tickAnswer, Kept, Ticks, releasedOn, releaseOn, movedOn, stepOn, bytesFit}
+use Rattle.node.specs.Layout.{stateBytes, stateIn, tallyIn, encodes}
+use Rattle.node.specs.Calls.{toldAnswer, tickAnswer, Kept, Ticks, releaseOn, movedOn, stepOn, bytesFit}
 use Rattle.node.proofs.LayoutLaws.{written-back, tally-written-back}
 
 -- a test that fails fails with others

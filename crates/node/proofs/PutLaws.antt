@@ -26,7 +26,7 @@ use Rattle.scheduler.specs.Releases.{releasedState}
 use Rattle.scheduler.specs.States.{noEntry, entryIn}
 use Rattle.scheduler.specs.Steps.{workedJob, later, behind, raised}
 use Rattle.node.specs.Words.{bytesFrom, wordIn, putWord, putWords, Octets}
-use Rattle.node.specs.Layout.{recordWords, jobWords, lastWords, entryWords, headWords, stateWord, stateBytes, verdictWord, verdictBytes, tallyBytes, tallyWord, tallyIn, listFrom, stateIn, entriesIn, entryFrom, encodes}
+use Rattle.node.specs.Layout.{recordWords, jobWords, lastWords, entryWords, stateWord, stateBytes, verdictWord, verdictBytes, tallyBytes, tallyWord, tallyIn, listFrom, stateIn, entryFrom, encodes}
 use Rattle.node.proofs.WordLaws.{bytes-back, puts-append, bytes-same, put-written, replaced, replaced-here, replaced-there, over, puts-written, over-there, over-here}
 use Rattle.node.proofs.LayoutLaws.{head-word, place-word, length-list, list-at, written-back}
 

@@ -1,10 +1,9 @@
 -- Every state of a history from an accepted start of a table of bytes has 16 places and 32-bit words: the rules bound all
 -- of its numbers but the labels, and the labels are the table's, which no call changes. So it is read back as it was
 -- written, and a history goes on from what was saved as if nothing had been.
-use Prim.Native.Nat.{ℕ, zero, suc, _+_, _-_, _*_, _/_, _%_, _≤_, _<_, _^_}
+use Prim.Native.Nat.{ℕ, zero, suc, _+_, _-_, _*_, _/_, _%_, _<_, _^_}
 use mathlib.Core.Path.{_≡_, refl, sym, _∙_, ap, subst}
 use mathlib.Core.List.{List, [], _∷_, _++_}
-use mathlib.Core.Bool.{Bool, true, false, cond, _&&_}
 use native.Mathlib.Omega.{arith}
 use lib.Dec.{leb, ltb}
 use lib.ListN.{length, getD, set, replicate, getD-replicate, length-replicate, List·getD-eq-default}
@@ -12,7 +11,6 @@ use lib.Seq.{getD-set-same, getD-set-other, set-out}
 use borrow.Author.Tests.{eq-eqb}
 use Rattle.theory.specs.Split.{by-eq, by-lt}
 use Rattle.table.specs.declared.Record.{Record}
-use Rattle.table.specs.declared.Refusal.{Refusal}
 use Rattle.table.specs.declared.Reading.the-variants as read
 use Rattle.table.specs.Bytes.{wordAt, recordsIn, noRecord, recordAt}
 use Rattle.table.specs.Sound.{places, readOf}
@@ -24,19 +22,18 @@ use Rattle.scheduler.specs.declared.Last.{Last}
 use Rattle.scheduler.specs.declared.Last.the-variants.{Never, At}
 use Rattle.scheduler.specs.declared.Entry.{Entry}
 use Rattle.scheduler.specs.declared.State.{State}
-use Rattle.scheduler.specs.declared.Tally.{Tally}
 use Rattle.scheduler.specs.declared.Answer.{Answer}
 use Rattle.scheduler.specs.declared.Answer.the-variants.{Accepted, Refused}
-use Rattle.scheduler.specs.States.{clockEnd, noEntry, entryIn, entriesOf}
-use Rattle.scheduler.specs.Lawful.{Lawful-task, Lawful-state}
-use Rattle.scheduler.specs.Starts.{freshState, startOf}
-use Rattle.scheduler.specs.Releases.{releaseAnswer, releaseOf}
-use Rattle.scheduler.specs.Steps.{tickOf, stepOf, workedOf, firstReady}
+use Rattle.scheduler.specs.States.{noEntry, entryIn, entriesOf}
+use Rattle.scheduler.specs.Lawful.{Lawful-state}
+use Rattle.scheduler.specs.Starts.{freshState}
+use Rattle.scheduler.specs.Releases.{releaseAnswer}
+use Rattle.scheduler.specs.Steps.{workedOf, firstReady}
 use Rattle.scheduler.specs.History.{Call, release, step, Past, next, after, begun, history}
-use Rattle.scheduler.proofs.CallLaws.{Sized, Step-is, moves, stays, step-is, Tick-is, slots, runs, tails, tick-is, fresh-entry, fresh-rests, fresh-lawful}
+use Rattle.scheduler.proofs.CallLaws.{Sized, Step-is, moves, stays, step-is, Tick-is, slots, runs, tails, tick-is}
 use Rattle.scheduler.proofs.HistoryLaws.{Kept, kept-next, kept-begun, kept-after}
-use Rattle.node.specs.Words.{wordIn, Octets}
-use Rattle.node.specs.Layout.{recordWords, jobWords, lastWords, entryWords, headWords, stateWord, stateBytes, tallyWord, tallyBytes, stateIn, tallyIn, encodes, Held}
+use Rattle.node.specs.Words.{Octets}
+use Rattle.node.specs.Layout.{recordWords, jobWords, lastWords, entryWords, headWords, stateWord, tallyWord, tallyBytes, Held}
 use Rattle.node.specs.Calls.{releaseOn, stepOn}
 use Rattle.node.specs.Saved.{Buffers, called, calledAll, saved, restored}
 use Rattle.node.proofs.WordLaws.{length-bytes}

@@ -1,10 +1,10 @@
 -- What each exported call gives on any bytes: its answer, one number, and what it leaves in the buffers.
-use Prim.Native.Nat.{ℕ, _+_, _*_, _<_, _≤_}
-use mathlib.Core.Path.{_≡_}
+use Prim.Native.Nat.{ℕ, _+_, _*_}
 use mathlib.Core.List.{List}
-use mathlib.Core.Bool.{Bool, true, cond, _&&_}
+use mathlib.Core.Bool.{Bool, cond, _&&_}
 use lib.Dec.{eqb}
 use lib.ListN.{length, getD}
+use Rattle.table.specs.declared.Refusal.the-variants.{Rules}
 use Rattle.table.specs.declared.Told.{Told}
 use Rattle.table.specs.Refusals.{toldOf}
 use Rattle.table.specs.Sound.{places}
@@ -38,6 +38,10 @@ packed number a b = number + 256 * a + 65536 * b
 abbrev pub toldAnswer : Told → ℕ
 toldAnswer t = packed (t .number) (t .place) (t .rounds)
 
+-- a buffer of another length, and bytes that encode no state, get 6
+abbrev pub unfitAnswer : ℕ
+unfitAnswer = toldAnswer (toldOf Rules)
+
 abbrev pub answered : Answer → ℕ
 answered Accepted = 0
 answered (Refused r) = toldAnswer (toldOf r)
@@ -69,7 +73,7 @@ pub record Ticks : Type 0 where
 -- the verdict is written where the test was made, that is where the set is admitted or gets 5
 abbrev pub judged : Verdict → List ℕ → Judgement → Judged
 judged v bytes (judgement.Admitted n) =
-    cond (eqb (length bytes) 192) (record { answer = packed 0 n 0; verdict = verdictBytes v }) (record { answer = 6; verdict = bytes })
+    cond (eqb (length bytes) 192) (record { answer = packed 0 n 0; verdict = verdictBytes v }) (record { answer = unfitAnswer; verdict = bytes })
 judged v bytes (judgement.Refused r) =
     record { answer = toldAnswer (toldOf r); verdict = cond (eqb (toldOf r .number) 5 && eqb (length bytes) 192) (verdictBytes v) bytes }
 
@@ -80,7 +84,7 @@ admitOn table bytes = judged (admitOf table) bytes (admitOf table .answer)
 -- a refused start leaves the buffer as it is
 abbrev pub startedOn : Started → List ℕ → Answer → Kept
 startedOn s bytes Accepted =
-    cond (eqb (length bytes) 600) (record { answer = 0; state = stateBytes (s .state) }) (record { answer = 6; state = bytes })
+    cond (eqb (length bytes) 600) (record { answer = 0; state = stateBytes (s .state) }) (record { answer = unfitAnswer; state = bytes })
 startedOn s bytes (Refused r) = record { answer = toldAnswer (toldOf r); state = bytes }
 
 -- A START
@@ -93,7 +97,7 @@ releasedOn r = record { answer = answered (r .answer); state = stateBytes (r .st
 
 unfoldable pub releaseOn : List ℕ → ℕ → ℕ → Kept
 releaseOn bytes task demand =
-    cond (encodes bytes) (releasedOn (releaseOf (stateIn bytes) task demand)) (record { answer = 6; state = bytes })
+    cond (encodes bytes) (releasedOn (releaseOf (stateIn bytes) task demand)) (record { answer = unfitAnswer; state = bytes })
 
 -- A STEP on bytes is the step on the state and the tally that they encode
 abbrev pub movedOn : Moved → Ticks
@@ -102,14 +106,14 @@ movedOn m = record { answer = tickedAnswer (m .answer); state = stateBytes (m .s
 unfoldable pub stepOn : List ℕ → List ℕ → Ticks
 stepOn bytes tally =
     cond (encodes bytes && countsIn tally) (movedOn (stepOf (stateIn bytes) (tallyIn tally)))
-    (record { answer = 6; state = bytes; tally = tally })
+    (record { answer = unfitAnswer; state = bytes; tally = tally })
 
 -- AN ENERGY READING: the number, and the nanojoules above it
 abbrev pub readingAnswer : EnergyReading → ℕ
 readingAnswer e = answered (e .answer) + 256 * e .nanojoules
 
 unfoldable pub energyOn : List ℕ → ℕ → ℕ → ℕ
-energyOn tally run sleep = cond (countsIn tally) (readingAnswer (energyOf (tallyIn tally) run sleep)) 6
+energyOn tally run sleep = cond (countsIn tally) (readingAnswer (energyOf (tallyIn tally) run sleep)) unfitAnswer
 
 -- the bytes encode a state, and it keeps its rules
 abbrev pub bytesFit : List ℕ → Bool

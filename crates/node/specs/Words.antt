@@ -1,8 +1,8 @@
 -- The bytes of every buffer: 32-bit words, low byte first.
-use Prim.Native.Nat.{ℕ, zero, suc, _+_, _*_, _/_, _%_, _≤_, _<_}
+use Prim.Native.Nat.{ℕ, zero, suc, _+_, _*_, _/_, _%_, _<_}
 use mathlib.Core.List.{List, [], _∷_, _++_}
-use mathlib.Core.Bool.{cond, _&&_}
-use lib.Dec.{leb, ltb}
+use mathlib.Core.Bool.{cond}
+use lib.Dec.{leb}
 use lib.ListN.{length, getD, set}
 use Rattle.table.specs.Bytes.{wordAt}
 

@@ -13,7 +13,7 @@ ghost use Rattle.scheduler.specs.Steps.{came, behind, raised, tickOf};
 ghost use Rattle.scheduler.specs.Releases.{releasedState};
 ghost use Rattle.node.specs.Words.{wordIn, putWord, putWords};
 ghost use Rattle.node.specs.Layout.{recordFrom, recordWords, jobFrom, jobWords, lastFrom, lastWords, entryWords, listFrom, kindCodes, placeCodes, placeBlank, entriesIn, stateIn, stateBytes, tallyIn, tallyBytes, verdictBytes, encodes};
-ghost use Rattle.node.specs.Calls.{packed, toldAnswer, tickAnswer, admitOn, startOn, bytesFit, placeFitsIn, placesFitIn, releaseOn, stepOn, energyOn};
+ghost use Rattle.node.specs.Calls.{packed, toldAnswer, unfitAnswer, tickAnswer, admitOn, startOn, bytesFit, placeFitsIn, placesFitIn, releaseOn, stepOn, energyOn};
 use admission::Verdict;
 use admission::admit;
 use scheduler::Answer;
@@ -63,7 +63,7 @@ pub extern "C" fn node_admit(table: &[u8], verdict: &mut [u8]) -> u64
     match answer {
         admission::Answer::Admitted { tasks } => {
             if verdict.len() != VERDICT_BYTES {
-                return six();
+                return unfit();
             }
             put_verdict(verdict, v);
             answer_of(0, tasks, 0)
@@ -93,7 +93,7 @@ pub extern "C" fn node_start(table: &[u8], state: &mut [u8]) -> u64
     match answer {
         Answer::Accepted => {
             if state.len() != STATE_BYTES {
-                return six();
+                return unfit();
             }
             put_state(state, started.state);
             0
@@ -109,7 +109,7 @@ pub extern "C" fn node_release(state: &mut [u8], task: u32, demand: u32) -> u64
         × (now (state .exit) ≡ releaseOn (now (state .entry)) task demand .state) ⌝ }
 {
     if !fits_in(state) {
-        return six();
+        return unfit();
     }
     let clock = word_at(state, 20);
     let e = task_at(state, task);
@@ -138,15 +138,15 @@ pub extern "C" fn node_step(state: &mut [u8], tally: &mut [u8]) -> u64
         × (now (tally .exit) ≡ stepOn (now (state .entry)) (now (tally .entry)) .tally) ⌝ }
 {
     if tally.len() != TALLY_BYTES {
-        return six();
+        return unfit();
     }
     if !fits_in(state) {
-        return six();
+        return unfit();
     }
     let clock = word_at(state, 20);
     let counted = tally_at(tally);
     if !counts(counted, clock) {
-        return six();
+        return unfit();
     }
     if CLOCK_END <= clock {
         return refused(Refusal::ClockEnd);
@@ -163,7 +163,7 @@ pub extern "C" fn node_energy(tally: &[u8], run: u32, sleep: u32) -> u64
     ensures { λ r. ⌜ r ≡ energyOn (now (tally .entry)) run sleep ⌝ }
 {
     if tally.len() != TALLY_BYTES {
-        return six();
+        return unfit();
     }
     let counted = tally_at(tally);
     let reading = energy(counted, run, sleep);
@@ -174,11 +174,11 @@ pub extern "C" fn node_energy(tally: &[u8], run: u32, sleep: u32) -> u64
     }
 }
 
-// Number 6.
-fn six() -> u64
-    ensures { λ r. ⌜ r ≡ 6 ⌝ }
+// The answer to a buffer of another length, and to bytes that encode no state: number 6.
+fn unfit() -> u64
+    ensures { λ r. ⌜ r ≡ unfitAnswer ⌝ }
 {
-    6
+    refused(Refusal::Rules)
 }
 
 // A refusal's answer.

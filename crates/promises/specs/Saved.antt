@@ -5,7 +5,6 @@ use mathlib.Core.Path.{_≡_, sym, _∙_, ap}
 use mathlib.Core.List.{List, _++_}
 use mathlib.Core.Bool.{true}
 use native.Mathlib.Omega.{arith}
-use lib.ListN.{length}
 use Rattle.table.specs.declared.Reading.the-variants as read
 use Rattle.table.specs.Sound.{readOf}
 use Rattle.scheduler.specs.declared.State.{State}
@@ -16,8 +15,8 @@ use Rattle.scheduler.specs.Steps.{stepOf}
 use Rattle.scheduler.specs.History.{Call, Past, after, begun, history}
 use Rattle.node.specs.Words.{Octets}
 use Rattle.node.specs.Layout.{stateBytes, tallyBytes, tallyWord, stateIn, tallyIn, encodes, countsIn, Held}
-use Rattle.node.specs.Calls.{packed, Kept, Ticks, releasedOn, releaseOn, movedOn, stepOn}
-use Rattle.node.specs.Saved.{Buffers, calledAll, saved, restored}
+use Rattle.node.specs.Calls.{packed, releasedOn, releaseOn, movedOn, stepOn}
+use Rattle.node.specs.Saved.{calledAll, saved, restored}
 use Rattle.node.proofs.LayoutLaws as layout
 use Rattle.node.proofs.OnLaws as on
 use Rattle.node.proofs.SavedLaws as saving

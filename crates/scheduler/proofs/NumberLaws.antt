@@ -9,7 +9,6 @@ use lib.Dec.{leb, ltb}
 use borrow.Author.Tests.{ltb-true, lt-ltb}
 use Rattle.table.specs.declared.Refusal.{Refusal}
 use Rattle.table.specs.declared.Refusal.the-variants as refusal
-use Rattle.table.specs.declared.Reading.{Reading}
 use Rattle.table.specs.Refusals.{toldOf}
 use Rattle.table.proofs.SoundLaws.{either}
 use Rattle.scheduler.specs.declared.State.{State}

@@ -1,9 +1,9 @@
 -- `laps::laps_by_value` meets its contract: after i turns i steps are made.
 use borrow.Author.Needs.{needs}
-use Prim.Native.Nat.{ℕ, _+_, _-_, _≤_}
-use mathlib.Core.Path.{_≡_, refl, sym, _∙_, ap}
+use mathlib.Core.Path.{_≡_, refl}
 use native.Mathlib.Numerals.{add-one}
 use native.Mathlib.Omega.{arith}
+use Prim.Native.Nat.{_-_, _≤_}
 use Rattle.laps.specs.Laps.{lapped}
 use Rattle.laps.proofs.laps_by_value.Statement.{statement}
 use Rattle.laps.proofs.laps_by_value.Tie as tie

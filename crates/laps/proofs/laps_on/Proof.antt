@@ -1,12 +1,12 @@
 -- `laps::laps_on` meets its contract: after i turns i steps are made.
 use borrow.Author.Needs.{needs}
-use Prim.Native.Nat.{ℕ, _+_, _-_, _≤_}
-use mathlib.Core.Path.{_≡_, refl, sym, _∙_, ap}
+use lib.ListN.{length}
 use mathlib.Core.List.{List}
+use mathlib.Core.Path.{_≡_, refl, _∙_}
 use native.Mathlib.Numerals.{add-one}
 use native.Mathlib.Omega.{arith}
-use lib.ListN.{length}
-use Rattle.node.specs.Calls.{Ticks, stepOn}
+use Prim.Native.Nat.{ℕ, _+_, _-_, _≤_}
+use Rattle.node.specs.Calls.{stepOn}
 use Rattle.laps.specs.Laps.{lapsOn}
 use Rattle.laps.proofs.laps_on.Statement.{statement}
 use Rattle.laps.proofs.laps_on.Tie as tie

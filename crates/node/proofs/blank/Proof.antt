@@ -1,5 +1,4 @@
 -- `node::blank` meets its contract.
-use mathlib.Core.Path.{_≡_, sym, _∙_}
 use borrow.Author.Needs.{needs}
 use Rattle.node.proofs.blank.Statement.{statement}
 use Rattle.node.proofs.blank.Tie as tie

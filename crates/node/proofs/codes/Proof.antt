@@ -1,10 +1,10 @@
 -- `node::codes` meets its contract.
+use borrow.Author.Needs.{needs}
 use borrow.Author.Tests.{not-true, not-false}
-use Prim.Native.Nat.{_+_, _*_}
 use mathlib.Core.Path.{_≡_, sym, _∙_}
+use Prim.Native.Nat.{_+_, _*_}
 use Rattle.node.specs.Words.{wordIn}
 use Rattle.node.specs.Layout.{kindCodes}
-use borrow.Author.Needs.{needs}
 use Rattle.node.proofs.codes.Statement.{statement}
 use Rattle.node.proofs.codes.Tie as tie
 

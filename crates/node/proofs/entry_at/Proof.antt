@@ -1,13 +1,13 @@
 -- `node::entry_at` meets its contract.
-use Prim.Native.Nat.{_+_, _*_, _≤_, _<_}
-use mathlib.Core.Path.{_≡_, sym, _∙_}
-use native.Mathlib.Omega.{arith}
+use borrow.Author.Needs.{needs}
 use lib.ListN.{length, List·getD-eq-default}
+use mathlib.Core.Path.{sym}
+use native.Mathlib.Omega.{arith}
+use Prim.Native.Nat.{_+_, _*_, _≤_}
 use Rattle.scheduler.specs.States.{noEntry}
 use Rattle.node.specs.Words.{wordIn}
 use Rattle.node.specs.Layout.{entryFrom, entriesIn}
 use Rattle.node.proofs.LayoutLaws.{length-list}
-use borrow.Author.Needs.{needs}
 use Rattle.node.proofs.entry_at.Statement.{statement}
 use Rattle.node.proofs.entry_at.Tie as tie
 

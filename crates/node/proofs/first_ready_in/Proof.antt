@@ -1,11 +1,11 @@
 -- `node::first_ready_in` meets its contract: what is left of the search, from i on, finds what the whole search finds.
 use borrow.Author.Needs.{needs}
-use Prim.Native.Nat.{ℕ, _-_, _≤_}
+use lib.ListN.{getD}
 use mathlib.Core.Bool.{Bool}
 use mathlib.Core.List.{List}
 use mathlib.Core.Path.{_≡_, sym, _∙_}
 use native.Mathlib.Omega.{arith}
-use lib.ListN.{getD}
+use Prim.Native.Nat.{ℕ, _-_, _≤_}
 use Rattle.theory.specs.First.{firstFrom, first-on, first-here, first-end}
 use Rattle.scheduler.specs.States.{noEntry}
 use Rattle.scheduler.specs.Steps.{came}

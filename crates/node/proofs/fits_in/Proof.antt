@@ -1,17 +1,17 @@
 -- `node::fits_in` meets its contract: the length, the rules of the head, then every place, encoded and lawful.
-use Rattle.node.proofs.OnLaws.{no-more}
-use Prim.Native.Nat.{ℕ, zero, suc}
+use borrow.Author.Needs.{needs}
 use borrow.Author.Tests.{eq-eqb, ne-eqb, not-true, not-false}
 use mathlib.Core.Bool.{Bool, true, false, _&&_}
 use mathlib.Core.Path.{_≡_, refl, sym, _∙_, ap}
 use native.Mathlib.Omega.{arith}
+use Prim.Native.Nat.{ℕ, zero, suc}
+use Rattle.node.proofs.OnLaws.{no-more}
 use Rattle.table.specs.declared.Record.{Record}
 use Rattle.scheduler.specs.declared.Entry.{Entry}
 use Rattle.scheduler.specs.States.{headFits, every, recordIn, stateFits}
 use Rattle.node.specs.Words.{wordIn}
 use Rattle.node.specs.Layout.{recordFrom, stateIn, encodes}
 use Rattle.node.proofs.LayoutLaws.{entry-is}
-use borrow.Author.Needs.{needs}
 use Rattle.node.proofs.fits_in.Statement.{statement}
 use Rattle.node.proofs.fits_in.Tie as tie
 

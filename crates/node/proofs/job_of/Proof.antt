@@ -1,10 +1,9 @@
 -- `node::job_of` meets its contract.
-use Prim.Native.Nat.{ℕ, zero, suc}
+use borrow.Author.Needs.{needs}
 use mathlib.Core.Path.{_≡_, refl, sym}
-use native.Mathlib.Omega.{arith}
+use Prim.Native.Nat.{ℕ, zero, suc}
 use Rattle.scheduler.specs.declared.Job.the-variants.{Working}
 use Rattle.node.specs.Layout.{jobFrom}
-use borrow.Author.Needs.{needs}
 use Rattle.node.proofs.job_of.Statement.{statement}
 use Rattle.node.proofs.job_of.Tie as tie
 

@@ -1,10 +1,9 @@
 -- `node::last_of` meets its contract.
-use Prim.Native.Nat.{ℕ, zero, suc}
+use borrow.Author.Needs.{needs}
 use mathlib.Core.Path.{_≡_, refl, sym}
-use native.Mathlib.Omega.{arith}
+use Prim.Native.Nat.{ℕ, zero, suc}
 use Rattle.scheduler.specs.declared.Last.the-variants.{At}
 use Rattle.node.specs.Layout.{lastFrom}
-use borrow.Author.Needs.{needs}
 use Rattle.node.proofs.last_of.Statement.{statement}
 use Rattle.node.proofs.last_of.Tie as tie
 

@@ -1,17 +1,15 @@
 -- `node::move_on` meets its contract: the clock, and in a run the job of the task that ran.
-use Prim.Native.Nat.{ℕ, _+_, _-_, _*_, _≤_}
+use borrow.Author.Needs.{needs}
 use mathlib.Core.Bool.{true, and-eq-true-iff}
-use mathlib.Core.Path.{_≡_, sym, _∙_, ap}
+use mathlib.Core.Path.{_≡_, sym, _∙_}
 use native.Mathlib.Omega.{arith}
-use Rattle.scheduler.specs.Lawful.{Lawful-state}
+use Prim.Native.Nat.{_-_, _≤_}
 use Rattle.scheduler.specs.States.{stateFits}
-use Rattle.scheduler.specs.Steps.{tickOf}
 use Rattle.scheduler.proofs.StateLaws.{fits-says}
-use Rattle.node.specs.Words.{wordIn, Octets}
+use Rattle.node.specs.Words.{Octets}
 use Rattle.node.specs.Layout.{stateIn, encodes}
 use Rattle.node.proofs.PutLaws.{tick-put, run-put}
 use Rattle.node.proofs.MovedLaws.{run-is-task}
-use borrow.Author.Needs.{needs}
 use Rattle.node.proofs.move_on.Statement.{statement}
 use Rattle.node.proofs.move_on.Tie as tie
 

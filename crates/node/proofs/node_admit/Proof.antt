@@ -1,9 +1,9 @@
 -- `node::node_admit` meets its contract: the verdict is written where the test was made and its buffer has its length.
-use Rattle.node.specs.Layout.{verdictWord}
-use borrow.Author.Tests.{eq-eqb, ne-eqb}
-use mathlib.Core.Path.{_≡_, refl, sym, _∙_}
-use lib.ListN.{length}
 use borrow.Author.Needs.{needs}
+use borrow.Author.Tests.{eq-eqb, ne-eqb}
+use lib.ListN.{length}
+use mathlib.Core.Path.{refl}
+use Rattle.node.specs.Layout.{verdictWord}
 use Rattle.node.proofs.node_admit.Statement.{statement}
 use Rattle.node.proofs.node_admit.Tie as tie
 
@@ -13,11 +13,11 @@ admit-requires c κs = search needs
 enum-known-answer : tie.Need-enum-known-answer
 enum-known-answer c = search needs
 
-six-requires : tie.Need-six-requires
-six-requires c κs = search needs
+unfit-requires : tie.Need-unfit-requires
+unfit-requires c κs = search needs
 
 returns : tie.Need-returns
-returns c = let a = c .before .before .before .before .before .before .before .before .args in rw (← c .before .before .before .before .before .admit .ensures, c .before .before .before .answer .given .1, ne-eqb (length (a .verdict .now)) 192 (c .before .if1 .taken)) (c .six .ensures, refl)
+returns c = let a = c .before .before .before .before .before .before .before .before .args in rw (← c .before .before .before .before .before .admit .ensures, c .before .before .before .answer .given .1, ne-eqb (length (a .verdict .now)) 192 (c .before .if1 .taken)) (c .unfit .ensures, refl)
 
 put-verdict-requires : tie.Need-put-verdict-requires
 put-verdict-requires c κs = search needs
@@ -69,7 +69,7 @@ node-admit-spec =
     (tie.spec
     admit-requires
     enum-known-answer
-    six-requires
+    unfit-requires
     returns
     put-verdict-requires
     answer-of-requires

@@ -1,26 +1,25 @@
 -- `node::node_energy` meets its contract: the length, then the reading.
+use borrow.Author.Needs.{needs}
+use borrow.Author.Tests.{eq-eqb, ne-eqb}
 use lib.ListN.{length}
+use mathlib.Core.Path.{_≡_, sym, _∙_, ap}
+use native.Mathlib.Nat.{add-zero}
+use native.Mathlib.Omega.{arith}
 use Rattle.scheduler.specs.declared.Tally.{Tally}
 use Rattle.scheduler.specs.Energies.{energyOf}
-use native.Mathlib.Nat.{add-zero}
-use Prim.Native.Nat.{ℕ, _+_, _*_}
-use borrow.Author.Tests.{eq-eqb, ne-eqb}
-use mathlib.Core.Path.{_≡_, sym, _∙_, ap}
-use native.Mathlib.Omega.{arith}
 use Rattle.scheduler.proofs.NumberLaws.{energy-refused}
 use Rattle.node.specs.Calls.{energyOn}
 use Rattle.node.specs.Layout.{tallyIn}
 use Rattle.node.proofs.MovedLaws.{energy-small}
-use borrow.Author.Needs.{needs}
 use Rattle.node.proofs.node_energy.Statement.{statement}
 use Rattle.node.proofs.node_energy.Tie as tie
 
-six-requires : tie.Need-six-requires
-six-requires c κs = search needs
+unfit-requires : tie.Need-unfit-requires
+unfit-requires c κs = search needs
 
 returns : tie.Need-returns
 unfolding energyOn
-returns c = rw (ne-eqb _ _ (c .before .if1 .taken)) (c .six .ensures)
+returns c = rw (ne-eqb _ _ (c .before .if1 .taken)) (c .unfit .ensures)
 
 tally-at-requires : tie.Need-tally-at-requires
 tally-at-requires c κs = search needs
@@ -62,7 +61,7 @@ pub node-energy-spec : {M : Type 1} → statement M
 node-energy-spec =
     tie.close
     (tie.spec
-    six-requires
+    unfit-requires
     returns
     tally-at-requires
     energy-requires

@@ -1,17 +1,16 @@
 -- `node::node_release` meets its contract: number 6 of the bytes, then the tests from 7 on, then five words of one place.
-use Prim.Native.Nat.{ℕ, _≤_}
+use borrow.Author.Needs.{needs}
 use borrow.Author.Tests.{not-true, not-false}
-use mathlib.Core.Bool.{true, false, and-eq-true-iff}
-use mathlib.Core.Path.{_≡_, refl, sym, _∙_, ap}
+use mathlib.Core.Bool.{true, and-eq-true-iff}
+use mathlib.Core.Path.{_≡_, refl, sym, _∙_}
 use native.Mathlib.Omega.{arith}
 use Rattle.scheduler.specs.States.{stateFits}
 use Rattle.scheduler.specs.Releases.{releaseAnswer}
 use Rattle.scheduler.proofs.ReleaseLaws.{accepted-says}
 use Rattle.node.specs.Words.{Octets}
 use Rattle.node.specs.Layout.{stateIn, encodes}
-use Rattle.node.specs.Calls.{Kept, bytesFit}
+use Rattle.node.specs.Calls.{bytesFit}
 use Rattle.node.proofs.OnLaws.{release-stays, release-unfit, release-takes}
-use borrow.Author.Needs.{needs}
 use Rattle.node.proofs.node_release.Statement.{statement}
 use Rattle.node.proofs.node_release.Tie as tie
 
@@ -37,8 +36,8 @@ asked c =
 fits-in-requires : tie.Need-fits-in-requires
 fits-in-requires c κs = search needs
 
-six-requires : tie.Need-six-requires
-six-requires c κs = search needs
+unfit-requires : tie.Need-unfit-requires
+unfit-requires c κs = search needs
 
 same-length : tie.Need-same-length
 same-length c = search needs
@@ -46,7 +45,7 @@ same-length c = search needs
 returns : tie.Need-returns
 returns c = let a = c .before .before .before .before .before .args in
     let e = release-unfit (a .state .now) (a .task) (a .demand) (octets (c .before .before .before .before)) (sym (c .before .before .fits-in .ensures) ∙ not-true _ (c .before .if1 .taken)) in
-    rw e (c .six .ensures, refl)
+    rw e (c .unfit .ensures, refl)
 
 word-at-requires : tie.Need-word-at-requires
 word-at-requires c κs = search needs
@@ -101,7 +100,7 @@ node-release-spec =
     tie.close
     (tie.spec
     fits-in-requires
-    six-requires
+    unfit-requires
     same-length
     returns
     word-at-requires

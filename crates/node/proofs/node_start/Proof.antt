@@ -1,8 +1,8 @@
 -- `node::node_start` meets its contract: the table first, then the buffer.
-use borrow.Author.Tests.{eq-eqb, ne-eqb}
-use mathlib.Core.Path.{_≡_, refl, sym, _∙_}
-use lib.ListN.{length}
 use borrow.Author.Needs.{needs}
+use borrow.Author.Tests.{eq-eqb, ne-eqb}
+use lib.ListN.{length}
+use mathlib.Core.Path.{refl}
 use Rattle.node.proofs.node_start.Statement.{statement}
 use Rattle.node.proofs.node_start.Tie as tie
 
@@ -12,12 +12,12 @@ start-requires c κs = search needs
 enum-told : tie.Need-enum-told
 enum-told c = search needs
 
-six-requires : tie.Need-six-requires
-six-requires c κs = search needs
+unfit-requires : tie.Need-unfit-requires
+unfit-requires c κs = search needs
 
 returns : tie.Need-returns
 returns c = let a = c .before .before .before .before .before .before .before .args in
-    rw (← c .before .before .before .before .start .ensures, c .before .before .enum-told .given .1, ne-eqb (length (a .state .now)) 600 (c .before .if1 .taken)) (c .six .ensures, refl)
+    rw (← c .before .before .before .before .start .ensures, c .before .before .enum-told .given .1, ne-eqb (length (a .state .now)) 600 (c .before .if1 .taken)) (c .unfit .ensures, refl)
 
 put-state-requires : tie.Need-put-state-requires
 put-state-requires c κs = search needs
@@ -44,7 +44,7 @@ node-start-spec =
     (tie.spec
     start-requires
     enum-told
-    six-requires
+    unfit-requires
     returns
     put-state-requires
     enum-known-answer

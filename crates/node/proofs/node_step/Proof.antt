@@ -1,16 +1,16 @@
 -- `node::node_step` meets its contract: number 6 of tally and state, then 7, then the tick.
-use Prim.Native.Nat.{ℕ, _+_, _≤_, _<_}
+use borrow.Author.Needs.{needs}
 use borrow.Author.Tests.{eqb-true, not-true, not-false}
-use mathlib.Core.Bool.{true, false}
-use mathlib.Core.Path.{_≡_, refl, sym, _∙_, ap}
-use native.Mathlib.Omega.{arith}
 use lib.ListN.{length}
+use mathlib.Core.Bool.{true}
+use mathlib.Core.Path.{_≡_, refl, sym, _∙_}
+use native.Mathlib.Omega.{arith}
+use Prim.Native.Nat.{_+_, _<_}
 use Rattle.scheduler.specs.States.{tallyFits}
 use Rattle.node.specs.Words.{wordIn, Octets}
 use Rattle.node.specs.Layout.{tallyIn}
 use Rattle.node.specs.Calls.{bytesFit}
 use Rattle.node.proofs.OnLaws.{step-short, step-unfit, step-uncounted, step-ended, step-moves}
-use borrow.Author.Needs.{needs}
 use Rattle.node.proofs.node_step.Statement.{statement}
 use Rattle.node.proofs.node_step.Tie as tie
 
@@ -39,24 +39,24 @@ counted c = sym (asked (c .before)) ∙ not-false _ (c .if3 .left)
 early : (c : tie.Else4) → wordIn (c .before .before .before .before .before .before .before .before .before .before .before .before .before .args .state .now) 5 < 1000000000
 early c = rw (c .before .before .before .before .before .word-at .ensures) at (c .if4 .left)
 
-six-requires : tie.Need-six-requires
-six-requires c κs = search needs
+unfit-requires : tie.Need-unfit-requires
+unfit-requires c κs = search needs
 
 returns : tie.Need-returns
-returns c = let a = c .before .before .before .before .args in rw (step-short (a .state .now) (a .tally .now) (c .before .if1 .taken)) (c .six .ensures, refl, refl)
+returns c = let a = c .before .before .before .before .args in rw (step-short (a .state .now) (a .tally .now) (c .before .if1 .taken)) (c .unfit .ensures, refl, refl)
 
 fits-in-requires : tie.Need-fits-in-requires
 fits-in-requires c κs = search needs
 
-six-requires-2 : tie.Need-six-requires-2
-six-requires-2 c κs = search needs
+unfit-requires-2 : tie.Need-unfit-requires-2
+unfit-requires-2 c κs = search needs
 
 same-length : tie.Need-same-length
 same-length c = search needs
 
 returns-2 : tie.Need-returns-2
 returns-2 c = let a = c .before .before .before .before .before .before .before .args in
-    rw (step-unfit (a .state .now) (a .tally .now) (octets (c .before .before .before .before .before .before)) (counts-octets (c .before .before .before .before .before)) (long (c .before .before .before .before)) (sym (c .before .before .fits-in .ensures) ∙ not-true _ (c .before .if2 .taken))) (c .six2 .ensures, refl, refl)
+    rw (step-unfit (a .state .now) (a .tally .now) (octets (c .before .before .before .before .before .before)) (counts-octets (c .before .before .before .before .before)) (long (c .before .before .before .before)) (sym (c .before .before .fits-in .ensures) ∙ not-true _ (c .before .if2 .taken))) (c .unfit2 .ensures, refl, refl)
 
 word-at-requires : tie.Need-word-at-requires
 word-at-requires c κs = search needs
@@ -67,8 +67,8 @@ tally-at-requires c κs = search needs
 counts-requires : tie.Need-counts-requires
 counts-requires c κs = search needs
 
-six-requires-3 : tie.Need-six-requires-3
-six-requires-3 c κs = search needs
+unfit-requires-3 : tie.Need-unfit-requires-3
+unfit-requires-3 c κs = search needs
 
 same-length-2 : tie.Need-same-length-2
 same-length-2 c = search needs
@@ -78,7 +78,7 @@ same-length-3 c = search needs
 
 returns-3 : tie.Need-returns-3
 returns-3 c = let a = c .before .before .before .before .before .before .before .before .before .before .before .before .before .args in
-    rw (step-uncounted (a .state .now) (a .tally .now) (octets (c .before .before .before .before .before .before .before .before .before .before .before .before)) (counts-octets (c .before .before .before .before .before .before .before .before .before .before .before)) (fits (c .before .before .before .before .before .before .before)) (long (c .before .before .before .before .before .before .before .before .before .before)) (sym (asked (c .before .before)) ∙ not-true _ (c .before .if3 .taken))) (c .six3 .ensures, refl, refl)
+    rw (step-uncounted (a .state .now) (a .tally .now) (octets (c .before .before .before .before .before .before .before .before .before .before .before .before)) (counts-octets (c .before .before .before .before .before .before .before .before .before .before .before)) (fits (c .before .before .before .before .before .before .before)) (long (c .before .before .before .before .before .before .before .before .before .before)) (sym (asked (c .before .before)) ∙ not-true _ (c .before .if3 .taken))) (c .unfit3 .ensures, refl, refl)
 
 refused-requires : tie.Need-refused-requires
 refused-requires c κs = search needs
@@ -126,16 +126,16 @@ pub node-step-spec : {M : Type 1} → statement M
 node-step-spec =
     tie.close
     (tie.spec
-    six-requires
+    unfit-requires
     returns
     fits-in-requires
-    six-requires-2
+    unfit-requires-2
     same-length
     returns-2
     word-at-requires
     tally-at-requires
     counts-requires
-    six-requires-3
+    unfit-requires-3
     same-length-2
     same-length-3
     returns-3

@@ -1,10 +1,9 @@
 -- `node::place_at` meets its contract.
-use Prim.Native.Nat.{_+_, _*_, _≤_, _<_}
-use mathlib.Core.Path.{_≡_, sym, _∙_}
+use borrow.Author.Needs.{needs}
+use mathlib.Core.Path.{sym}
 use native.Mathlib.Omega.{arith}
 use Rattle.node.specs.Words.{wordIn}
 use Rattle.node.proofs.LayoutLaws.{entry-is}
-use borrow.Author.Needs.{needs}
 use Rattle.node.proofs.place_at.Statement.{statement}
 use Rattle.node.proofs.place_at.Tie as tie
 

@@ -1,11 +1,11 @@
 -- `node::place_fits_in` meets its contract: a spare place is nine words that are 0.
-use Prim.Native.Nat.{_+_, _*_}
-use borrow.Author.Tests.{lt-ltb, le-ltb, not-true, not-false}
-use mathlib.Core.Path.{_≡_, sym, _∙_}
+use borrow.Author.Needs.{needs}
+use borrow.Author.Tests.{le-ltb, not-true, not-false}
+use mathlib.Core.Path.{sym, _∙_}
 use native.Mathlib.Omega.{arith}
+use Prim.Native.Nat.{_+_, _*_}
 use Rattle.node.specs.Words.{wordIn}
 use Rattle.node.proofs.LayoutLaws.{entry-is, spare-blank}
-use borrow.Author.Needs.{needs}
 use Rattle.node.proofs.place_fits_in.Statement.{statement}
 use Rattle.node.proofs.place_fits_in.Tie as tie
 

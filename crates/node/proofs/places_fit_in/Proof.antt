@@ -1,13 +1,13 @@
 -- `node::places_fit_in` meets its contract: every place passed is encoded and keeps its rules.
 use borrow.Author.Needs.{needs}
-use Prim.Native.Nat.{ℕ, _+_, _-_, _*_, _≤_}
 use borrow.Author.Tests.{not-true, not-false}
+use lib.ListN.{getD}
 use mathlib.Core.Bool.{Bool, true}
 use mathlib.Core.List.{List}
 use mathlib.Core.Path.{_≡_, refl, sym, _∙_, ap}
 use native.Mathlib.Numerals.{add-one}
 use native.Mathlib.Omega.{arith}
-use lib.ListN.{getD}
+use Prim.Native.Nat.{ℕ, _-_, _≤_}
 use Rattle.scheduler.specs.declared.Entry.{Entry}
 use Rattle.scheduler.proofs.EveryLaws.{every-more, every-not}
 use Rattle.scheduler.specs.States.{noEntry, every, periodBefore}

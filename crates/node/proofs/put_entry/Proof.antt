@@ -1,15 +1,15 @@
 -- `node::put_entry` meets its contract.
-use Prim.Native.Nat.{ℕ, _+_}
+use borrow.Author.Needs.{needs}
 use mathlib.Core.List.{List, [], _∷_, _++_}
+use mathlib.Core.Path.{_≡_, sym, ap, _∙_}
+use Prim.Native.Nat.{ℕ, _+_}
 use Rattle.table.specs.declared.Record.{Record}
 use Rattle.scheduler.specs.declared.Job.{Job}
 use Rattle.scheduler.specs.declared.Job.the-variants.{Resting, Working}
 use Rattle.scheduler.specs.declared.Last.{Last}
 use Rattle.node.specs.Layout.{recordWords, jobWords, lastWords}
-use mathlib.Core.Path.{_≡_, sym, ap, _∙_}
 use Rattle.node.specs.Words.{putWords}
 use Rattle.node.proofs.WordLaws.{puts-append}
-use borrow.Author.Needs.{needs}
 use Rattle.node.proofs.put_entry.Statement.{statement}
 use Rattle.node.proofs.put_entry.Tie as tie
 

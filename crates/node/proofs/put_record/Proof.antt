@@ -1,10 +1,8 @@
 -- `node::put_record` meets its contract.
-use Prim.Native.Nat.{ℕ}
-use mathlib.Core.Path.{_≡_, sym, ap, _∙_}
-use mathlib.Core.List.{List, [], _∷_}
-use Rattle.node.specs.Words.{putWords}
-use Rattle.node.proofs.WordLaws.{puts-append}
 use borrow.Author.Needs.{needs}
+use mathlib.Core.List.{[], _∷_}
+use mathlib.Core.Path.{sym}
+use Rattle.node.proofs.WordLaws.{puts-append}
 use Rattle.node.proofs.put_record.Statement.{statement}
 use Rattle.node.proofs.put_record.Tie as tie
 

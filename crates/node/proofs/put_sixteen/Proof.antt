@@ -1,9 +1,9 @@
 -- `node::put_sixteen` meets its contract: what was put so far are the first i words.
 use borrow.Author.Needs.{needs}
-use Prim.Native.Nat.{ℕ, _+_, _-_, _≤_}
+use lib.ListN.{getD}
 use mathlib.Core.Path.{_≡_, refl, sym, _∙_}
 use native.Mathlib.Omega.{arith}
-use lib.ListN.{length, getD}
+use Prim.Native.Nat.{_-_, _≤_}
 use Rattle.node.specs.Words.{putWords}
 use Rattle.node.specs.Layout.{listFrom}
 use Rattle.node.proofs.WordLaws.{length-puts}

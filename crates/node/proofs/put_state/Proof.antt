@@ -1,12 +1,11 @@
 -- `node::put_state` meets its contract: the head, then the words of the first i places.
 use borrow.Author.Needs.{needs}
-use Prim.Native.Nat.{ℕ, _+_, _-_, _*_, _≤_}
-use mathlib.Core.Path.{_≡_, refl, sym, _∙_, ap}
-use mathlib.Core.List.{List}
-use native.Mathlib.Omega.{arith}
 use lib.ListN.{length}
+use mathlib.Core.Path.{_≡_, refl, sym, _∙_, ap}
+use native.Mathlib.Omega.{arith}
+use Prim.Native.Nat.{_-_, _≤_}
 use Rattle.node.specs.Words.{putWords, Octets}
-use Rattle.node.proofs.WordLaws.{length-put, length-puts}
+use Rattle.node.proofs.WordLaws.{length-puts}
 use Rattle.node.proofs.PutLaws.{placesWords, place-more-put, state-put}
 use Rattle.node.proofs.put_state.Statement.{statement}
 use Rattle.node.proofs.put_state.Tie as tie

@@ -1,9 +1,6 @@
 -- `node::put_three` meets its contract.
-use Prim.Native.Nat.{ℕ}
-use mathlib.Core.Path.{_≡_, ap, _∙_}
-use mathlib.Core.List.{List}
-use Rattle.node.specs.Words.{putWords}
 use borrow.Author.Needs.{needs}
+use Rattle.node.specs.Words.{putWords}
 use Rattle.node.proofs.put_three.Statement.{statement}
 use Rattle.node.proofs.put_three.Tie as tie
 

@@ -1,8 +1,7 @@
 -- `node::put_verdict` meets its contract: 48 words, put in three goes.
-use mathlib.Core.Path.{_≡_, sym, _∙_}
+use borrow.Author.Needs.{needs}
 use Rattle.node.specs.Words.{Octets}
 use Rattle.node.proofs.PutLaws.{verdict-put}
-use borrow.Author.Needs.{needs}
 use Rattle.node.proofs.put_verdict.Statement.{statement}
 use Rattle.node.proofs.put_verdict.Tie as tie
 

@@ -1,12 +1,10 @@
 -- `node::put_word` meets its contract.
-use Prim.Native.Nat.{_+_, _-_, _≤_, _<_}
-use Prim.Native.Nat.{_+_}
-use borrow.Author.Tests.{lt-leb, le-leb}
-use mathlib.Core.Path.{_≡_}
-use native.Mathlib.Omega.{arith}
-use lib.ListN.{length, set, length-set}
-use Rattle.node.specs.Words.{putWord}
 use borrow.Author.Needs.{needs}
+use borrow.Author.Tests.{lt-leb, le-leb}
+use lib.ListN.{length, length-set}
+use native.Mathlib.Omega.{arith}
+use Prim.Native.Nat.{_+_, _-_, _≤_, _<_}
+use Rattle.node.specs.Words.{putWord}
 use Rattle.node.proofs.put_word.Statement.{statement}
 use Rattle.node.proofs.put_word.Tie as tie
 

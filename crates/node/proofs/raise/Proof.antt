@@ -1,12 +1,9 @@
 -- `node::raise` meets its contract: the count of the tick, one up.
-use mathlib.Core.Path.{_≡_, sym, _∙_, ap}
-use Rattle.scheduler.specs.declared.Tick.{Tick}
-use Rattle.scheduler.specs.Steps.{raised}
+use borrow.Author.Needs.{needs}
+use mathlib.Core.Path.{_∙_}
 use Rattle.node.specs.Words.{Octets}
-use Rattle.node.specs.Layout.{tallyIn, tallyBytes}
 use Rattle.node.proofs.PutLaws.{count-put}
 use Rattle.scheduler.specs.declared.Tick.the-variants.{Run, Slot, Tail}
-use borrow.Author.Needs.{needs}
 use Rattle.node.proofs.raise.Statement.{statement}
 use Rattle.node.proofs.raise.Tie as tie
 

@@ -1,7 +1,4 @@
 -- `node::raise_word` meets its contract.
-use Prim.Native.Nat.{ℕ, _+_}
-use mathlib.Core.Path.{_≡_, ap, _∙_}
-use Rattle.node.specs.Words.{putWord}
 use borrow.Author.Needs.{needs}
 use Rattle.node.proofs.raise_word.Statement.{statement}
 use Rattle.node.proofs.raise_word.Tie as tie

@@ -1,8 +1,7 @@
 -- `node::take` meets its contract: the job and the last release of one place.
-use mathlib.Core.Path.{_≡_, sym, _∙_}
+use borrow.Author.Needs.{needs}
 use Rattle.node.specs.Words.{Octets}
 use Rattle.node.proofs.PutLaws.{release-put}
-use borrow.Author.Needs.{needs}
 use Rattle.node.proofs.take.Statement.{statement}
 use Rattle.node.proofs.take.Tie as tie
 

@@ -1,8 +1,8 @@
 -- `node::task_at` meets its contract.
-use Prim.Native.Nat.{_-_}
+use borrow.Author.Needs.{needs}
 use mathlib.Core.Path.{_≡_}
 use native.Mathlib.Omega.{arith}
-use borrow.Author.Needs.{needs}
+use Prim.Native.Nat.{_-_}
 use Rattle.node.proofs.task_at.Statement.{statement}
 use Rattle.node.proofs.task_at.Tie as tie
 

@@ -1,10 +1,11 @@
 -- `node::tick_at` meets its contract: slot, run and tail as the definition has them; the first task that may run is found by the last boundary.
-use Prim.Native.Nat.{ℕ, _+_, _-_, _%_, _≤_, _<_}
+use borrow.Author.Needs.{needs}
 use borrow.Author.Tests.{lt-ltb, le-ltb}
-use mathlib.Core.Bool.{true, and-eq-true-iff}
-use mathlib.Core.Path.{_≡_, sym, _∙_}
+use mathlib.Core.Bool.{and-eq-true-iff}
+use mathlib.Core.Path.{_≡_, _∙_}
 use native.Mathlib.Nat.{mod-le}
 use native.Mathlib.Omega.{arith}
+use Prim.Native.Nat.{_-_, _%_, _≤_, _<_}
 use Rattle.scheduler.specs.Lawful.{Lawful-state}
 use Rattle.scheduler.specs.States.{stateFits}
 use Rattle.scheduler.specs.Steps.{firstReady}
@@ -12,7 +13,6 @@ use Rattle.scheduler.proofs.StateLaws.{fits-says}
 use Rattle.scheduler.proofs.ReadyLaws.{first-ready-is}
 use Rattle.node.specs.Words.{wordIn}
 use Rattle.node.specs.Layout.{stateIn, encodes}
-use borrow.Author.Needs.{needs}
 use Rattle.node.proofs.tick_at.Statement.{statement}
 use Rattle.node.proofs.tick_at.Tie as tie
 

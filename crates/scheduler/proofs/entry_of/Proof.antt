@@ -1,10 +1,10 @@
 -- `scheduler::entry_of` meets its contract.
-use Prim.Native.Nat.{_-_}
+use borrow.Author.Needs.{needs}
+use lib.ListN.{List·getD-eq-default}
 use mathlib.Core.Path.{_≡_, sym, _∙_}
 use native.Mathlib.Omega.{arith}
-use lib.ListN.{length, List·getD-eq-default}
+use Prim.Native.Nat.{_-_}
 use Rattle.scheduler.specs.States.{noEntry}
-use borrow.Author.Needs.{needs}
 use Rattle.scheduler.proofs.entry_of.Statement.{statement}
 use Rattle.scheduler.proofs.entry_of.Tie as tie
 

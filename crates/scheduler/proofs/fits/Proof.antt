@@ -1,8 +1,8 @@
 -- `scheduler::fits` meets its contract: the rules of the head, then those of every place.
+use borrow.Author.Needs.{needs}
 use borrow.Author.Tests.{not-true, not-false}
 use mathlib.Core.Path.{sym, _∙_}
 use Rattle.scheduler.specs.States.{recordIn, stateFits}
-use borrow.Author.Needs.{needs}
 use Rattle.scheduler.proofs.fits.Statement.{statement}
 use Rattle.scheduler.proofs.fits.Tie as tie
 

@@ -1,7 +1,7 @@
 -- `scheduler::head_fits` meets its contract: each test decides one part of the rules.
+use borrow.Author.Needs.{needs}
 use borrow.Author.Tests.{lt-leb, le-leb, not-true, not-false}
 use mathlib.Core.Path.{sym, _∙_}
-use borrow.Author.Needs.{needs}
 use Rattle.scheduler.proofs.head_fits.Statement.{statement}
 use Rattle.scheduler.proofs.head_fits.Tie as tie
 

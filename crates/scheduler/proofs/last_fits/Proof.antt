@@ -1,6 +1,6 @@
 -- `scheduler::last_fits` meets its contract.
-use borrow.Author.Tests.{lt-leb, le-leb, eq-eqb, ne-eqb}
 use borrow.Author.Needs.{needs}
+use borrow.Author.Tests.{lt-leb, le-leb, eq-eqb, ne-eqb}
 use Rattle.scheduler.proofs.last_fits.Statement.{statement}
 use Rattle.scheduler.proofs.last_fits.Tie as tie
 

@@ -1,10 +1,9 @@
 -- `scheduler::may_come` meets its contract: the tests stand in the order of their numbers, and past each the answer is that of the tests after it.
-use Prim.Native.Nat.{ℕ}
+use borrow.Author.Needs.{needs}
 use borrow.Author.Tests.{lt-leb, le-leb}
 use mathlib.Core.Path.{_≡_, sym, _∙_}
 use Rattle.scheduler.specs.Releases.{from7, from8, from9, from10}
 use Rattle.scheduler.specs.declared.Answer.{Answer}
-use borrow.Author.Needs.{needs}
 use Rattle.scheduler.proofs.may_come.Statement.{statement}
 use Rattle.scheduler.proofs.may_come.Tie as tie
 

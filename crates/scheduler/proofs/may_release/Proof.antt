@@ -1,8 +1,8 @@
 -- `scheduler::may_release` meets its contract: number 6, then the tests from 7 on.
-use borrow.Author.Tests.{not-true, not-false}
-use mathlib.Core.Path.{_≡_, sym, _∙_}
-use Rattle.scheduler.specs.Releases.{releaseAnswer}
 use borrow.Author.Needs.{needs}
+use borrow.Author.Tests.{not-true, not-false}
+use mathlib.Core.Path.{sym, _∙_}
+use Rattle.scheduler.specs.Releases.{releaseAnswer}
 use Rattle.scheduler.proofs.may_release.Statement.{statement}
 use Rattle.scheduler.proofs.may_release.Tie as tie
 

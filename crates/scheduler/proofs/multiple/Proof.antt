@@ -1,7 +1,6 @@
 -- `scheduler::multiple` meets its contract.
-use borrow.Author.Tests.{eq-eqb}
-use native.Mathlib.Nat.{mod-zero}
 use borrow.Author.Needs.{needs}
+use native.Mathlib.Nat.{mod-zero}
 use Rattle.scheduler.proofs.multiple.Statement.{statement}
 use Rattle.scheduler.proofs.multiple.Tie as tie
 

@@ -1,6 +1,6 @@
 -- `scheduler::off_boundary` meets its contract.
-use borrow.Author.Tests.{eq-eqb, ne-eqb}
 use borrow.Author.Needs.{needs}
+use borrow.Author.Tests.{eq-eqb, ne-eqb}
 use Rattle.scheduler.proofs.off_boundary.Statement.{statement}
 use Rattle.scheduler.proofs.off_boundary.Tie as tie
 
