@@ -11,8 +11,11 @@
 mod code;
 #[path = "../compare/model.rs"]
 mod model;
+#[path = "../compare/node.rs"]
+mod node;
 
 use model::{State, Tally, Tick, Verdict, STATE_BYTES, TALLY_BYTES, VERDICT_BYTES};
+use node::{node_admit, node_energy, node_release, node_start, node_step};
 use std::hint::black_box;
 use std::process::exit;
 use std::rc::Rc;
@@ -32,11 +35,6 @@ const COPIES: usize = 48;
 // ---- Our side ----
 
 extern "C" {
-    fn node_admit(table: *const u8, bytes: usize, verdict: *mut u8, verdict_bytes: usize) -> u64;
-    fn node_start(table: *const u8, bytes: usize, state: *mut u8, state_bytes: usize) -> u64;
-    fn node_release(state: *mut u8, bytes: usize, task: u32, demand: u32) -> u64;
-    fn node_step(state: *mut u8, bytes: usize, tally: *mut u8, tally_bytes: usize) -> u64;
-    fn node_energy(tally: *const u8, bytes: usize, run_power: u32, sleep_power: u32) -> u64;
     fn laps_on(state: *mut u8, bytes: usize, tally: *mut u8, tally_bytes: usize, n: u32) -> u64;
     fn laps_by_value(table: *const u8, bytes: usize, count: u32) -> u64;
 }

@@ -4,19 +4,16 @@
 //! must agree. The inputs follow from the seed alone; the time says how many of them are tried.
 
 mod model;
+mod node;
 
 use model::{set_words, word, STATE_BYTES, TALLY_BYTES, VERDICT_BYTES};
+use node::{node_admit, node_energy, node_release, node_start, node_step};
 use std::array::from_fn;
 use std::process::exit;
 use std::sync::atomic::{AtomicPtr, Ordering};
 use std::time::{Duration, Instant};
 
 extern "C" {
-    fn node_admit(table: *const u8, bytes: usize, verdict: *mut u8, verdict_bytes: usize) -> u64;
-    fn node_start(table: *const u8, bytes: usize, state: *mut u8, state_bytes: usize) -> u64;
-    fn node_release(state: *mut u8, bytes: usize, task: u32, demand: u32) -> u64;
-    fn node_step(state: *mut u8, bytes: usize, tally: *mut u8, tally_bytes: usize) -> u64;
-    fn node_energy(tally: *const u8, bytes: usize, run_power: u32, sleep_power: u32) -> u64;
     fn signal(number: i32, handler: extern "C" fn(i32)) -> usize;
 }
 
