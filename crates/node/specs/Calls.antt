@@ -28,7 +28,7 @@ use Rattle.scheduler.specs.Releases.{releaseOf}
 use Rattle.scheduler.specs.Steps.{stepOf}
 use Rattle.scheduler.specs.Energies.{energyOf}
 use Rattle.node.specs.Words.{wordIn}
-use Rattle.node.specs.Layout.{stateBytes, tallyBytes, verdictBytes, placeCodes, entriesIn, stateIn, tallyIn, encodes, countsIn}
+use Rattle.node.specs.Layout.{stateSize, verdictSize, placeStart, stateBytes, tallyBytes, verdictBytes, placeCodes, entriesIn, stateIn, tallyIn, encodes, countsIn}
 
 -- AN ANSWER is one number: a refusal's number, or 0, in its low byte, and two parts above it
 abbrev pub packed : ℕ → ℕ → ℕ → ℕ
@@ -73,9 +73,9 @@ pub record Ticks : Type 0 where
 -- the verdict is written where the test was made, that is where the set is admitted or gets 5
 abbrev pub judged : Verdict → List ℕ → Judgement → Judged
 judged v bytes (judgement.Admitted n) =
-    cond (eqb (length bytes) 192) (record { answer = packed 0 n 0; verdict = verdictBytes v }) (record { answer = unfitAnswer; verdict = bytes })
+    cond (eqb (length bytes) (4 * verdictSize)) (record { answer = packed 0 n 0; verdict = verdictBytes v }) (record { answer = unfitAnswer; verdict = bytes })
 judged v bytes (judgement.Refused r) =
-    record { answer = toldAnswer (toldOf r); verdict = cond (eqb (toldOf r .number) 5 && eqb (length bytes) 192) (verdictBytes v) bytes }
+    record { answer = toldAnswer (toldOf r); verdict = cond (eqb (toldOf r .number) 5 && eqb (length bytes) (4 * verdictSize)) (verdictBytes v) bytes }
 
 -- THE ADMISSION TEST
 abbrev pub admitOn : List ℕ → List ℕ → Judged
@@ -84,7 +84,7 @@ admitOn table bytes = judged (admitOf table) bytes (admitOf table .answer)
 -- a refused start leaves the buffer as it is
 abbrev pub startedOn : Started → List ℕ → Answer → Kept
 startedOn s bytes Accepted =
-    cond (eqb (length bytes) 600) (record { answer = 0; state = stateBytes (s .state) }) (record { answer = unfitAnswer; state = bytes })
+    cond (eqb (length bytes) (4 * stateSize)) (record { answer = 0; state = stateBytes (s .state) }) (record { answer = unfitAnswer; state = bytes })
 startedOn s bytes (Refused r) = record { answer = toldAnswer (toldOf r); state = bytes }
 
 -- A START
@@ -121,7 +121,7 @@ bytesFit bytes = encodes bytes && stateFits (stateIn bytes)
 
 -- place i is encoded and keeps its rules, behind one of period `above`
 abbrev pub placeFitsIn : List ℕ → ℕ → ℕ → ℕ → ℕ → ℕ → Bool
-placeFitsIn bytes n h clock i above = placeCodes (wordIn bytes) (6 + 9 * i) && placeFits n i above h clock (getD (entriesIn bytes) i noEntry)
+placeFitsIn bytes n h clock i above = placeCodes (wordIn bytes) (placeStart i) && placeFits n i above h clock (getD (entriesIn bytes) i noEntry)
 
 -- so is and does every place
 abbrev pub placesFitIn : List ℕ → ℕ → ℕ → ℕ → Bool

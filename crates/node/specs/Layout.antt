@@ -19,6 +19,26 @@ use Rattle.scheduler.specs.declared.Tally.{Tally}
 use Rattle.scheduler.specs.States.{entryIn, every}
 use Rattle.node.specs.Words.{bytesFrom, wordIn}
 
+-- the words before the first place, of a place, and of a state; the number of a place's first word
+abbrev pub headSize : ℕ
+headSize = 6
+
+abbrev pub placeSize : ℕ
+placeSize = 9
+
+abbrev pub stateSize : ℕ
+stateSize = headSize + placeSize * places
+
+abbrev pub placeStart : ℕ → ℕ
+placeStart i = headSize + placeSize * i
+
+-- the words of a tally and of a verdict
+abbrev pub tallySize : ℕ
+tallySize = 3
+
+abbrev pub verdictSize : ℕ
+verdictSize = 3 * places
+
 -- WRITTEN: a record, 4 words
 abbrev pub recordWords : Record → List ℕ
 recordWords r = r .label ∷ r .work ∷ r .period ∷ r .reserved ∷ []
@@ -43,18 +63,20 @@ headWords s = recordWords (s .sleep) ++ s .n ∷ s .clock ∷ []
 
 -- word k of a state: the head, then 16 places
 unfoldable pub stateWord : State → ℕ → ℕ
-stateWord s k = cond (ltb k 6) (getD (headWords s) k 0) (getD (entryWords (entryIn s ((k - 6) / 9))) ((k - 6) % 9) 0)
+stateWord s k =
+    cond (ltb k headSize) (getD (headWords s) k 0)
+    (getD (entryWords (entryIn s ((k - headSize) / placeSize))) ((k - headSize) % placeSize) 0)
 
 -- a state, 150 words
 abbrev pub stateBytes : State → List ℕ
-stateBytes s = bytesFrom (stateWord s) 150
+stateBytes s = bytesFrom (stateWord s) stateSize
 
 -- a tally, 3 words
 abbrev pub tallyWord : Tally → ℕ → ℕ
 tallyWord t k = getD (t .run ∷ t .slot ∷ t .tail ∷ []) k 0
 
 abbrev pub tallyBytes : Tally → List ℕ
-tallyBytes t = bytesFrom (tallyWord t) 3
+tallyBytes t = bytesFrom (tallyWord t) tallySize
 
 -- a verdict, 48 words: 16 windows, 16 figures, 16 rounds
 unfoldable pub verdictWord : Verdict → ℕ → ℕ
@@ -63,7 +85,7 @@ verdictWord v k =
     (cond (ltb k 32) (getD (v .figures) (k - 16) 0) (getD (v .rounds) (k - 32) 0))
 
 abbrev pub verdictBytes : Verdict → List ℕ
-verdictBytes v = bytesFrom (verdictWord v) 48
+verdictBytes v = bytesFrom (verdictWord v) verdictSize
 
 -- READ: a record whose first word has number k
 abbrev pub recordFrom : (ℕ → ℕ) → ℕ → Record
@@ -86,7 +108,7 @@ listFrom f zero = []
 listFrom f (suc n) = listFrom f n ++ f n ∷ []
 
 abbrev pub entriesFrom : (ℕ → ℕ) → List Entry
-entriesFrom word = listFrom (λ i. entryFrom word (6 + 9 * i)) places
+entriesFrom word = listFrom (λ i. entryFrom word (placeStart i)) places
 
 abbrev pub stateFrom : (ℕ → ℕ) → State
 stateFrom word = record { sleep = recordFrom word 0; n = word 4; clock = word 5; entries = entriesFrom word }
@@ -114,15 +136,15 @@ abbrev pub placeBlank : (ℕ → ℕ) → ℕ → Bool
 placeBlank word k =
     eqb (word k + word (k + 1) + word (k + 2) + word (k + 3) + (word (k + 4) + word (k + 5) + word (k + 6)) + (word (k + 7) + word (k + 8))) 0
 
--- THE BYTES ENCODE A STATE: there are 600, and every place is encoded
+-- THE BYTES ENCODE A STATE: there are as many as its words have, 600, and every place is encoded
 unfoldable pub encodes : List ℕ → Bool
-encodes bytes = eqb (length bytes) 600 && every (λ i. placeCodes (wordIn bytes) (6 + 9 * i)) places
+encodes bytes = eqb (length bytes) (4 * stateSize) && every (λ i. placeCodes (wordIn bytes) (placeStart i)) places
 
 -- a tally: there are 12
 abbrev pub countsIn : List ℕ → Bool
-countsIn bytes = eqb (length bytes) 12
+countsIn bytes = eqb (length bytes) (4 * tallySize)
 
 -- a state of 16 places whose words are 32-bit words, as the machine's are
 pub record Held (s : State) : Type 0 where
-  pub whole : length (s .entries) ≡ 16
-  pub small : (k : ℕ) → k < 150 → stateWord s k < 2 ^ 32
+  pub whole : length (s .entries) ≡ places
+  pub small : (k : ℕ) → k < stateSize → stateWord s k < 2 ^ 32
