@@ -47,10 +47,21 @@ pub const TALLY_BYTES: usize = 12;
 
 pub const VERDICT_BYTES: usize = 192;
 
-// The words of a state before its first place, and of a place.
+// The words of a state before its first place, and of a place; the number of the first job's word.
 const HEAD_WORDS: usize = 6;
 
 const PLACE_WORDS: usize = 9;
+
+const FIRST_JOB: usize = 10;
+
+// Where S, H, n and the clock stand in a state's bytes.
+const S_AT: usize = 4;
+
+const H_AT: usize = 8;
+
+const N_AT: usize = 16;
+
+const CLOCK_AT: usize = 20;
 
 // The admission test. The verdict is written where the set is admitted or gets 5.
 #[no_mangle]
@@ -111,12 +122,12 @@ pub extern "C" fn node_release(state: &mut [u8], task: u32, demand: u32) -> u64
     if !fits_in(state) {
         return unfit();
     }
-    let clock = word_at(state, 20);
+    let clock = word_at(state, CLOCK_AT);
     let e = task_at(state, task);
     let answer = may_come(
         e,
-        word_at(state, 16),
-        word_at(state, 8),
+        word_at(state, N_AT),
+        word_at(state, H_AT),
         clock,
         task,
         demand,
@@ -143,7 +154,7 @@ pub extern "C" fn node_step(state: &mut [u8], tally: &mut [u8]) -> u64
     if !fits_in(state) {
         return unfit();
     }
-    let clock = word_at(state, 20);
+    let clock = word_at(state, CLOCK_AT);
     let counted = tally_at(tally);
     if !counts(counted, clock) {
         return unfit();
@@ -222,8 +233,8 @@ fn fits_in(state: &[u8]) -> bool
     }
     let sleep = record_in(state, 0);
     let first = record_in(state, HEAD_WORDS);
-    let n = word_at(state, 16);
-    let clock = word_at(state, 20);
+    let n = word_at(state, N_AT);
+    let clock = word_at(state, CLOCK_AT);
     if !head_fits(sleep, first, n, clock) {
         return false;
     }
@@ -414,13 +425,13 @@ fn tick_at(state: &[u8]) -> Tick
     requires { ⌜ bytesFit (now state) ≡ true ⌝ }
     ensures { λ r. ⌜ r ≡ tickOf (stateIn (now (state .entry))) ⌝ }
 {
-    let h = word_at(state, 8);
-    let clock = word_at(state, 20);
+    let h = word_at(state, H_AT);
+    let clock = word_at(state, CLOCK_AT);
     let since = clock % h;
-    if since < word_at(state, 4) {
+    if since < word_at(state, S_AT) {
         return Tick::Slot;
     }
-    let n = word_at(state, 16);
+    let n = word_at(state, N_AT);
     let i = first_ready_in(state, n, clock - since);
     if i < n {
         return Tick::Run(i + 1);
@@ -450,17 +461,17 @@ fn move_on(state: &mut [u8], tick: Tick)
     requires { ⌜ (bytesFit (now state) ≡ true) × (wordIn (now state) 5 < 1000000000) × (tick ≡ tickOf (stateIn (now state))) ⌝ }
     ensures { λ _. ⌜ now (state .exit) ≡ stateBytes (behind (stateIn (now (state .entry))) tick) ⌝ }
 {
-    let clock = word_at(state, 20);
+    let clock = word_at(state, CLOCK_AT);
     match tick {
         Tick::Run(task) => {
             let e = task_at(state, task);
             let d = worked(e);
             let job = d.job;
-            put_word(state, 20, clock + 1);
-            put_job(state, 10 + PLACE_WORDS * (task - 1) as usize, job);
+            put_word(state, CLOCK_AT, clock + 1);
+            put_job(state, FIRST_JOB + PLACE_WORDS * (task - 1) as usize, job);
         }
-        Tick::Slot => put_word(state, 20, clock + 1),
-        Tick::Tail => put_word(state, 20, clock + 1),
+        Tick::Slot => put_word(state, CLOCK_AT, clock + 1),
+        Tick::Tail => put_word(state, CLOCK_AT, clock + 1),
     }
 }
 
@@ -481,7 +492,7 @@ fn take(state: &mut [u8], task: u32, clock: u32, demand: u32)
     requires { ⌜ (encodes (now state) ≡ true) × (1 ≤ task) × (task ≤ 16) × (clock ≡ wordIn (now state) 5) ⌝ }
     ensures { λ _. ⌜ now (state .exit) ≡ stateBytes (releasedState (stateIn (now (state .entry))) task demand) ⌝ }
 {
-    let at = 10 + PLACE_WORDS * (task - 1) as usize;
+    let at = FIRST_JOB + PLACE_WORDS * (task - 1) as usize;
     let job = Job::Working {
         release: clock,
         left: demand,
@@ -506,8 +517,8 @@ fn put_state(out: &mut [u8], s: State)
 {
     let sleep = s.sleep;
     put_record(out, 0, sleep);
-    put_word(out, 16, s.n);
-    put_word(out, 20, s.clock);
+    put_word(out, N_AT, s.n);
+    put_word(out, CLOCK_AT, s.clock);
     let entries = s.entries;
     let mut i: usize = 0;
     while i < PLACES {
