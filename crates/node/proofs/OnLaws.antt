@@ -1,6 +1,6 @@
 -- The calls on bytes by their cases: what is refused leaves the bytes as they are, what is accepted leaves the bytes of
 -- the state and the tally behind it.
-use Prim.Native.Nat.{ℕ, _-_, _%_, _≤_, _<_}
+use Prim.Native.Nat.{ℕ, _*_, _-_, _%_, _≤_, _<_}
 use mathlib.Core.Path.{_≡_, refl, ap}
 use mathlib.Core.List.{List}
 use mathlib.Core.Bool.{Bool, true, false, _&&_, and-eq-true-iff}
@@ -8,20 +8,25 @@ use native.Mathlib.Omega.{arith}
 use lib.Dec.{eqb}
 use lib.ListN.{length}
 use borrow.Author.Tests.{lt-leb, le-leb, eq-eqb, ne-eqb, eqb-true}
+use Rattle.theory.specs.Split.{by-eq}
 use Rattle.table.specs.declared.Refusal.{Refusal}
 use Rattle.table.specs.declared.Refusal.the-variants as refusal
 use Rattle.table.specs.Refusals.{toldOf}
+use Rattle.admission.specs.declared.Answer.{Answer as Judgement}
+use Rattle.admission.specs.declared.Answer.the-variants as judgement
+use Rattle.admission.specs.Verdicts.{admitOf}
 use Rattle.scheduler.specs.declared.Answer.{Answer}
 use Rattle.scheduler.specs.declared.Answer.the-variants.{Accepted, Refused}
 use Rattle.scheduler.specs.declared.Tick.{Tick}
 use Rattle.scheduler.specs.declared.Tick.the-variants.{Run, Slot, Tail}
 use Rattle.scheduler.proofs.CallLaws.{Step-is, moves, stays, step-is}
 use Rattle.scheduler.specs.States.{clockEnd, stateFits, tallyFits}
+use Rattle.scheduler.specs.Starts.{startOf}
 use Rattle.scheduler.specs.Releases.{releaseAnswer, releasedState}
 use Rattle.scheduler.specs.Steps.{tickOf, behind, made, unmoved, stepOf}
 use Rattle.node.specs.Words.{wordIn, Octets}
-use Rattle.node.specs.Layout.{stateBytes, stateIn, tallyIn, encodes}
-use Rattle.node.specs.Calls.{toldAnswer, tickAnswer, Kept, Ticks, releaseOn, movedOn, stepOn, bytesFit}
+use Rattle.node.specs.Layout.{stateSize, verdictSize, stateBytes, stateIn, tallyIn, encodes}
+use Rattle.node.specs.Calls.{packed, startOn, admitOn, toldAnswer, tickAnswer, Kept, Ticks, releaseOn, movedOn, stepOn, bytesFit}
 use Rattle.node.proofs.LayoutLaws.{written-back, tally-written-back}
 
 -- a test that fails fails with others
@@ -134,3 +139,23 @@ step-leaves bytes tally o q r = by-length (eqb (length tally) 12) refl
     by-length : (b : Bool) → eqb (length tally) 12 ≡ b → (stepOn bytes tally .state ≡ bytes) × (stepOn bytes tally .tally ≡ tally)
     by-length true e = by-coded (eqb-true (length tally) 12 e) (encodes bytes) refl
     by-length false e = both 6 (step-short bytes tally (λ l. let t = eq-eqb (length tally) 12 l in let z : _≡_ {A = ℕ} 0 1 = cc in omega arith))
+
+-- so does a start, and an admission but for number 5
+pub start-leaves : (table bytes : List ℕ) → 1 ≤ startOn table bytes .answer % 256 → startOn table bytes .state ≡ bytes
+start-leaves table bytes r = go (startOf table .answer) refl (eqb (length bytes) (4 * stateSize)) refl
+  where
+    go : (a : Answer) → startOf table .answer ≡ a → (b : Bool) → eqb (length bytes) (4 * stateSize) ≡ b → startOn table bytes .state ≡ bytes
+    go (Refused f) q b e = rw q
+    go Accepted q false e = rw (q, e)
+    go Accepted q true e = let z : 1 ≤ 0 % 256 = rw (q, e) at r in absurd (let y : ⊥ = omega arith in y)
+
+pub admit-leaves : (table bytes : List ℕ) → 1 ≤ admitOn table bytes .answer % 256 → (admitOn table bytes .answer % 256 ≡ 5 → ⊥) → admitOn table bytes .verdict ≡ bytes
+admit-leaves table bytes r n = go (admitOf table .answer) refl (eqb (length bytes) (4 * verdictSize)) refl
+  where
+    go : (a : Judgement) → admitOf table .answer ≡ a → (b : Bool) → eqb (length bytes) (4 * verdictSize) ≡ b → admitOn table bytes .verdict ≡ bytes
+    go (judgement.Admitted k) q false e = rw (q, e)
+    go (judgement.Admitted k) q true e = let z : 1 ≤ packed 0 k 0 % 256 = rw (q, e) at r in absurd (let y : ⊥ = omega arith in y)
+    go (judgement.Refused f) q b e =
+        by-eq (toldOf f .number) 5 (admitOn table bytes .verdict ≡ bytes)
+        (λ five. absurd (n (rw q (let z : toldAnswer (toldOf f) % 256 ≡ 5 = omega arith in z))))
+        (λ other. rw (q, ne-eqb (toldOf f .number) 5 other))

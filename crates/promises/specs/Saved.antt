@@ -15,7 +15,7 @@ use Rattle.scheduler.specs.Steps.{stepOf}
 use Rattle.scheduler.specs.History.{Call, Past, after, begun, history}
 use Rattle.node.specs.Words.{Octets}
 use Rattle.node.specs.Layout.{stateBytes, tallyBytes, tallyWord, stateIn, tallyIn, encodes, countsIn, Held}
-use Rattle.node.specs.Calls.{packed, releasedOn, releaseOn, movedOn, stepOn}
+use Rattle.node.specs.Calls.{packed, admitOn, startOn, releasedOn, releaseOn, movedOn, stepOn}
 use Rattle.node.specs.Saved.{calledAll, saved, restored}
 use Rattle.node.proofs.LayoutLaws as layout
 use Rattle.node.proofs.OnLaws as on
@@ -41,7 +41,13 @@ pub step-on-bytes : (bytes tally : List ℕ) → encodes bytes ≡ true → coun
 unfolding stepOn
 step-on-bytes bytes tally e c = rw (e, c)
 
--- A REFUSED CALL leaves every byte as it was
+-- A REFUSED CALL leaves every byte as it was; but for number 5, which comes back with the verdict
+pub admit-leaves-bytes : (table bytes : List ℕ) → 1 ≤ admitOn table bytes .answer % 256 → (admitOn table bytes .answer % 256 ≡ 5 → ⊥) → admitOn table bytes .verdict ≡ bytes
+admit-leaves-bytes = on.admit-leaves
+
+pub start-leaves-bytes : (table bytes : List ℕ) → 1 ≤ startOn table bytes .answer % 256 → startOn table bytes .state ≡ bytes
+start-leaves-bytes = on.start-leaves
+
 pub release-leaves-bytes : (bytes : List ℕ) (task demand : ℕ) → Octets bytes → 1 ≤ releaseOn bytes task demand .answer % 256 → releaseOn bytes task demand .state ≡ bytes
 release-leaves-bytes = on.release-leaves
 
