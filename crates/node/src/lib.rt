@@ -464,7 +464,7 @@ fn move_on(state: &mut [u8], tick: Tick)
     let clock = word_at(state, CLOCK_AT);
     match tick {
         Tick::Run(task) => {
-            let e = task_at(state, task);
+            let e = place_at(state, (task - 1) as usize);
             let d = worked(e);
             let job = d.job;
             put_word(state, CLOCK_AT, clock + 1);

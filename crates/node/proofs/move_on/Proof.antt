@@ -36,8 +36,14 @@ word-at-requires c κs = search needs
 enum-known-tick : tie.Need-enum-known-tick
 enum-known-tick c = search needs
 
-task-at-requires : tie.Need-task-at-requires
-task-at-requires c κs = search needs
+sub-place-at : tie.Need-sub-place-at
+sub-place-at c = task (c .before .before) .0
+
+cast-place-at : tie.Need-cast-place-at
+cast-place-at c = search needs
+
+place-at-requires : tie.Need-place-at-requires
+place-at-requires c κs = let t = task (c .before .before) in omega (arith, t)
 
 worked-requires : tie.Need-worked-requires
 worked-requires c κs = search needs
@@ -89,7 +95,7 @@ returns c = let p = c .before .before .before .before .before .before .before .b
     let k = p .before .before .before .before in
     let a = k .before .args in
     let t = task p in
-    rw (p .tick .given .1, c .before .before .put-job .ensures, c .before .before .before .before .before .before .put-word .ensures, c .before .before .before .before .before .before .before .before .worked .ensures, c .before .before .before .before .before .before .before .before .before .task-at .ensures, p .before .before .word-at .ensures)
+    rw (p .tick .given .1, c .before .before .put-job .ensures, c .before .before .before .before .before .before .put-word .ensures, c .before .before .before .before .before .before .before .before .worked .ensures, c .before .before .before .before .before .before .before .before .before .place-at .ensures, p .before .before .word-at .ensures)
     (run-put (a .state .now) (p .tick .given .0 .0) (coded (k .before)) (octets k) (t .0) (t .1))
 
 same-length-2 : tie.Need-same-length-2
@@ -114,7 +120,9 @@ move-on-spec =
     (tie.spec
     word-at-requires
     enum-known-tick
-    task-at-requires
+    sub-place-at
+    cast-place-at
+    place-at-requires
     worked-requires
     add-put-word
     put-word-requires
