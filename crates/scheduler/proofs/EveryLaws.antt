@@ -37,3 +37,15 @@ pub says-every : (test : ℕ → Bool) (n : ℕ) → ((i : ℕ) → i < n → te
 unfolding every
 says-every test zero h = refl
 says-every test (suc n) h = rw (says-every test n (λ i l. h i (omega arith)), h n (omega arith))
+
+-- two tests of every number are one
+pub every-both : (f g : ℕ → Bool) (n : ℕ) → every (λ i. f i && g i) n ≡ every f n && every g n
+unfolding every
+every-both f g zero = refl
+every-both f g (suc n) = rw (every-both f g n) (four (every f n) (every g n) (f n) (g n))
+  where
+    four : (a b c d : Bool) → (a && b) && (c && d) ≡ (a && c) && (b && d)
+    four true true c d = refl
+    four true false true d = refl
+    four true false false d = refl
+    four false b c d = refl

@@ -1,31 +1,18 @@
 -- `node::fits_in` meets its contract: the length, the rules of the head, then every place, encoded and lawful.
 use borrow.Author.Needs.{needs}
 use borrow.Author.Tests.{eq-eqb, ne-eqb, not-true, not-false}
-use mathlib.Core.Bool.{Bool, true, false, _&&_}
-use mathlib.Core.Path.{_≡_, refl, sym, _∙_, ap}
+use mathlib.Core.Path.{_≡_, sym, _∙_, ap}
 use native.Mathlib.Omega.{arith}
-use Prim.Native.Nat.{ℕ, zero, suc}
 use Rattle.node.proofs.OnLaws.{no-more}
 use Rattle.table.specs.declared.Record.{Record}
 use Rattle.scheduler.specs.declared.Entry.{Entry}
-use Rattle.scheduler.specs.States.{headFits, every, recordIn, stateFits}
+use Rattle.scheduler.proofs.EveryLaws.{every-both}
+use Rattle.scheduler.specs.States.{headFits, recordIn, stateFits}
 use Rattle.node.specs.Words.{wordIn}
 use Rattle.node.specs.Layout.{recordFrom, stateIn, encodes}
 use Rattle.node.proofs.LayoutLaws.{entry-is}
 use Rattle.node.proofs.fits_in.Statement.{statement}
 use Rattle.node.proofs.fits_in.Tie as tie
-
--- two tests of every number are one
-every-both : (f g : ℕ → Bool) (n : ℕ) → every (λ i. f i && g i) n ≡ every f n && every g n
-unfolding every
-every-both f g zero = refl
-every-both f g (suc n) = rw (every-both f g n) (four (every f n) (every g n) (f n) (g n))
-  where
-    four : (a b c d : Bool) → (a && b) && (c && d) ≡ (a && c) && (b && d)
-    four true true c d = refl
-    four true false true d = refl
-    four true false false d = refl
-    four false b c d = refl
 
 -- what was asked of the head
 head : (c : tie.After-head-fits)
