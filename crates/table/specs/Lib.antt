@@ -6,5 +6,7 @@ pub mod Bytes
 pub mod Sound
 -- the same rules as facts
 pub mod Rules
+-- when a task may be released
+pub mod Times
 -- the set that a table describes, as the theory's rules
 pub mod Set

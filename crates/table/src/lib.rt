@@ -7,6 +7,7 @@ ghost use lib.ListN.{length};
 ghost use Rattle.table.specs.Refusals.{toldOf};
 ghost use Rattle.table.specs.Bytes.{wordAt, recordAt, recordsIn};
 ghost use Rattle.table.specs.Sound.{lawful, harmonized, firstBroken, firstFalling, readOf};
+ghost use Rattle.table.specs.Times.{releaseTime};
 
 // The bytes of a record, the places for tasks (a table has no more tasks), and the largest period.
 pub const RECORD_BYTES: usize = 16;
@@ -164,6 +165,21 @@ pub fn harmonious(sleep: Record, first: Record) -> bool
     } else {
         false
     }
+}
+
+// Whether the task at place i, from 0, may be released at a tick: the first task at multiples of h
+// alone, any other at every tick.
+pub fn release_time(h: u32, i: u32, tick: u32) -> bool
+    ensures { λ r. ⌜ r ≡ releaseTime h i tick ⌝ }
+{
+    if i != 0 {
+        return true;
+    }
+    // Of 0 only 0 is a multiple.
+    if h == 0 {
+        return tick == 0;
+    }
+    tick % h == 0
 }
 
 // A refusal's number and what comes back with it.
