@@ -1,11 +1,11 @@
-//! bench [--code] ARCHIVE: the archives libnode.a and liblaps.a against the model, on the same
-//! inputs in one run; tables in Markdown on standard output. ARCHIVE is libnode.a, to be read for
-//! its code and stack (code.rs); with --code nothing else is done.
+//! bench [--code] ARCHIVE: the archives libnode.a and libbench_steps.a against the model, on the
+//! same inputs in one run; tables in Markdown on standard output. ARCHIVE is libnode.a, to be read
+//! for its code and stack (code.rs); with --code nothing else is done.
 //!
 //! A row has two or three ways to do the same calls. A lap of a way makes its inputs ready, then
 //! times a fixed number of calls; a batch is as many laps as fill 2 ms. Each repeat goes over all
 //! rows and takes one batch of each way, another way first each time. Both sides are called, not
-//! inlined. Before the timing every call was made on both sides with the same answer and bytes, and
+//! inlined. Before the timing every call was made on both sides with the same answer and words, and
 //! after each lap what it worked on must be as the model left it.
 
 mod code;
@@ -14,7 +14,7 @@ mod model;
 #[path = "../compare/node.rs"]
 mod node;
 
-use model::{State, Tally, Tick, Verdict, STATE_BYTES, TALLY_BYTES, VERDICT_BYTES};
+use model::{table, State, Tally, Tick, Verdict, STATE_WORDS, TALLY_WORDS, VERDICT_WORDS};
 use node::{node_admit, node_energy, node_release, node_start, node_step};
 use std::hint::black_box;
 use std::process::exit;
@@ -35,45 +35,51 @@ const COPIES: usize = 48;
 // ---- Our side ----
 
 extern "C" {
-    fn laps_on(state: *mut u8, bytes: usize, tally: *mut u8, tally_bytes: usize, n: u32) -> u64;
-    fn laps_by_value(table: *const u8, bytes: usize, count: u32) -> u64;
+    fn steps_on(
+        state: *mut u32,
+        words: usize,
+        tally: *mut u32,
+        tally_words: usize,
+        count: u32,
+    ) -> u64;
+    fn steps_by_value(table: *const u8, bytes: usize, count: u32) -> u64;
 }
 
-type StateBytes = [u8; STATE_BYTES];
-type TallyBytes = [u8; TALLY_BYTES];
-type VerdictBytes = [u8; VERDICT_BYTES];
+type StateWords = [u32; STATE_WORDS];
+type TallyWords = [u32; TALLY_WORDS];
+type VerdictWords = [u32; VERDICT_WORDS];
 
 // Each pointer goes with the length of its own buffer, so all these calls are sound.
 
-fn our_admit(table: &[u8], verdict: &mut VerdictBytes) -> u64 {
+fn our_admit(table: &[u8], verdict: &mut VerdictWords) -> u64 {
     let (table, bytes) = (table.as_ptr(), table.len());
-    unsafe { node_admit(table, bytes, verdict.as_mut_ptr(), VERDICT_BYTES) }
+    unsafe { node_admit(table, bytes, verdict.as_mut_ptr(), VERDICT_WORDS) }
 }
 
-fn our_start(table: &[u8], state: &mut StateBytes) -> u64 {
-    unsafe { node_start(table.as_ptr(), table.len(), state.as_mut_ptr(), STATE_BYTES) }
+fn our_start(table: &[u8], state: &mut StateWords) -> u64 {
+    unsafe { node_start(table.as_ptr(), table.len(), state.as_mut_ptr(), STATE_WORDS) }
 }
 
-fn our_release(state: &mut StateBytes, task: u32, demand: u32) -> u64 {
-    unsafe { node_release(state.as_mut_ptr(), STATE_BYTES, task, demand) }
+fn our_release(state: &mut StateWords, task: u32, demand: u32) -> u64 {
+    unsafe { node_release(state.as_mut_ptr(), STATE_WORDS, task, demand) }
 }
 
-fn our_step(state: &mut StateBytes, tally: &mut TallyBytes) -> u64 {
+fn our_step(state: &mut StateWords, tally: &mut TallyWords) -> u64 {
     let (state, tally) = (state.as_mut_ptr(), tally.as_mut_ptr());
-    unsafe { node_step(state, STATE_BYTES, tally, TALLY_BYTES) }
+    unsafe { node_step(state, STATE_WORDS, tally, TALLY_WORDS) }
 }
 
-fn our_energy(tally: &TallyBytes, run_power: u32, sleep_power: u32) -> u64 {
-    unsafe { node_energy(tally.as_ptr(), TALLY_BYTES, run_power, sleep_power) }
+fn our_energy(tally: &TallyWords, run_power: u32, sleep_power: u32) -> u64 {
+    unsafe { node_energy(tally.as_ptr(), TALLY_WORDS, run_power, sleep_power) }
 }
 
-fn our_laps(state: &mut StateBytes, tally: &mut TallyBytes, count: u32) -> u64 {
+fn our_steps(state: &mut StateWords, tally: &mut TallyWords, count: u32) -> u64 {
     let (state, tally) = (state.as_mut_ptr(), tally.as_mut_ptr());
-    unsafe { laps_on(state, STATE_BYTES, tally, TALLY_BYTES, count) }
+    unsafe { steps_on(state, STATE_WORDS, tally, TALLY_WORDS, count) }
 }
 
-fn our_laps_by_value(table: &[u8], count: u32) -> u64 {
-    unsafe { laps_by_value(table.as_ptr(), table.len(), count) }
+fn our_steps_by_value(table: &[u8], count: u32) -> u64 {
+    unsafe { steps_by_value(table.as_ptr(), table.len(), count) }
 }
 
 // ---- The model, called as ours is ----
@@ -84,8 +90,8 @@ fn rust_admit(table: &[u8]) -> Verdict {
 }
 
 #[inline(never)]
-fn rust_admit_bytes(table: &[u8], verdict: &mut VerdictBytes) -> u64 {
-    model::admit_bytes(table, verdict)
+fn rust_admit_words(table: &[u8], verdict: &mut VerdictWords) -> u64 {
+    model::admit_words(table, verdict)
 }
 
 #[inline(never)]
@@ -94,8 +100,8 @@ fn rust_release(state: &mut State, task: u32, demand: u32) -> Result<(), u32> {
 }
 
 #[inline(never)]
-fn rust_release_bytes(state: &mut StateBytes, task: u32, demand: u32) -> u64 {
-    model::release_bytes(state, task, demand)
+fn rust_release_words(state: &mut StateWords, task: u32, demand: u32) -> u64 {
+    model::release_words(state, task, demand)
 }
 
 #[inline(never)]
@@ -104,8 +110,8 @@ fn rust_step(state: &mut State, tally: &mut Tally) -> Result<Tick, u32> {
 }
 
 #[inline(never)]
-fn rust_step_bytes(state: &mut StateBytes, tally: &mut TallyBytes) -> u64 {
-    model::step_bytes(state, tally)
+fn rust_step_words(state: &mut StateWords, tally: &mut TallyWords) -> u64 {
+    model::step_words(state, tally)
 }
 
 #[inline(never)]
@@ -114,13 +120,13 @@ fn rust_energy(tally: &Tally, run_power: u32, sleep_power: u32) -> Result<u64, u
 }
 
 #[inline(never)]
-fn rust_energy_bytes(tally: &TallyBytes, run_power: u32, sleep_power: u32) -> u64 {
-    model::energy_bytes(tally, run_power, sleep_power)
+fn rust_energy_words(tally: &TallyWords, run_power: u32, sleep_power: u32) -> u64 {
+    model::energy_words(tally, run_power, sleep_power)
 }
 
 /// Many steps inside one call.
 #[inline(never)]
-fn rust_laps(state: &mut State, tally: &mut Tally, count: u32) -> Result<Tick, u32> {
+fn rust_steps(state: &mut State, tally: &mut Tally, count: u32) -> Result<Tick, u32> {
     let mut last = Ok(Tick::Slot);
     for _ in 0..count {
         last = state.step(tally);
@@ -128,9 +134,9 @@ fn rust_laps(state: &mut State, tally: &mut Tally, count: u32) -> Result<Tick, u
     last
 }
 
-/// A start and many steps inside one call; the run ticks.
+/// A start and many steps inside one call; the slot and the tail ticks.
 #[inline(never)]
-fn rust_laps_from_start(table: &[u8], count: u32) -> u64 {
+fn rust_steps_from_start(table: &[u8], count: u32) -> u64 {
     let mut tally = Tally::default();
     let mut state = model::start(table).unwrap();
     for _ in 0..count {
@@ -153,13 +159,6 @@ fn told_tick(answer: Result<Tick, u32>) -> u64 {
 }
 
 // ---- Inputs ----
-
-/// A table of works and periods, the sleep record first; each label is its record's number.
-fn table(records: &[(u32, u32)]) -> Vec<u8> {
-    let numbered = (0u32..).zip(records);
-    let words = numbered.flat_map(|(i, &(work, period))| [i, work, period, 0]);
-    words.flat_map(u32::to_le_bytes).collect()
-}
 
 /// Sleep S in H, and n tasks of work 1 but for the last; periods from 30,000 to 60,000.
 fn set(sleep: (u32, u32), n: u32, last: u32) -> Vec<u8> {
@@ -223,8 +222,8 @@ fn document_sets() -> Vec<Vec<u8>> {
 /// A state and its tally on both sides. Each call is made on both, which must agree.
 #[derive(Clone)]
 struct Both {
-    bytes: StateBytes,
-    tally_bytes: TallyBytes,
+    words: StateWords,
+    tally_words: TallyWords,
     state: State,
     tally: Tally,
 }
@@ -232,18 +231,18 @@ struct Both {
 impl Both {
     fn start(table: &[u8]) -> Both {
         let mut both = Both {
-            bytes: [0; STATE_BYTES],
-            tally_bytes: [0; TALLY_BYTES],
+            words: [0; STATE_WORDS],
+            tally_words: [0; TALLY_WORDS],
             state: model::start(table).unwrap(),
             tally: Tally::default(),
         };
-        assert_eq!(our_start(table, &mut both.bytes), 0, "start");
+        assert_eq!(our_start(table, &mut both.words), 0, "start");
         both.agree();
         both
     }
 
     fn release(&mut self, task: u32, demand: u32) -> u64 {
-        let answer = our_release(&mut self.bytes, task, demand);
+        let answer = our_release(&mut self.words, task, demand);
         let rust = told(self.state.release(task, demand), |()| 0);
         assert_eq!(answer, rust, "release");
         self.agree();
@@ -251,7 +250,7 @@ impl Both {
     }
 
     fn step(&mut self) -> u64 {
-        let answer = our_step(&mut self.bytes, &mut self.tally_bytes);
+        let answer = our_step(&mut self.words, &mut self.tally_words);
         let rust = told_tick(self.state.step(&mut self.tally));
         assert_eq!(answer, rust, "step");
         self.agree();
@@ -259,9 +258,9 @@ impl Both {
     }
 
     fn agree(&self) {
-        assert_eq!(self.bytes, self.state.to_bytes(), "the states differ");
-        let tally_bytes = self.tally.to_bytes();
-        assert_eq!(self.tally_bytes, tally_bytes, "the tallies differ");
+        assert_eq!(self.words, self.state.to_words(), "the states differ");
+        let tally_words = self.tally.to_words();
+        assert_eq!(self.tally_words, tally_words, "the tallies differ");
     }
 }
 
@@ -272,8 +271,8 @@ struct Ends {
 }
 
 impl Ends {
-    fn on_bytes(&self) -> [(StateBytes, TallyBytes); 2] {
-        [&self.from, &self.to].map(|both| (both.bytes, both.tally_bytes))
+    fn on_words(&self) -> [(StateWords, TallyWords); 2] {
+        [&self.from, &self.to].map(|both| (both.words, both.tally_words))
     }
 
     fn in_structs(&self) -> [(State, Tally); 2] {
@@ -405,7 +404,7 @@ struct Row {
     /// Of an admission.
     tasks: u32,
     rounds: u32,
-    /// Ours, the model on its own values, and perhaps the model on the same bytes.
+    /// Ours, the model on its own values, and perhaps the model on the same words.
     ways: Vec<Way>,
 }
 
@@ -449,12 +448,12 @@ fn hidden<T: ?Sized>(lent: &mut T) -> &mut T {
 
 /// Admission of each of some tables in turn.
 fn admission(what: impl Into<String>, tables: Vec<Vec<u8>>, turns: u32) -> Row {
-    let blank = [0xa5; VERDICT_BYTES];
+    let blank = [0xa5; VERDICT_WORDS];
     let mut left = blank;
     for table in &tables {
         let (mut ours, mut rust) = (blank, blank);
         let answer = our_admit(table, &mut ours);
-        assert_eq!(answer, model::admit_bytes(table, &mut rust), "admission");
+        assert_eq!(answer, model::admit_words(table, &mut rust), "admission");
         assert_eq!(ours, rust, "the verdicts differ");
         left = ours;
     }
@@ -480,14 +479,14 @@ fn admission(what: impl Into<String>, tables: Vec<Vec<u8>>, turns: u32) -> Row {
         }
     });
     let tables = all;
-    let on_bytes = Way::new(calls, [blank, left], move |verdict| {
+    let on_words = Way::new(calls, [blank, left], move |verdict| {
         for _ in 0..turns {
             for table in tables.iter() {
-                used(rust_admit_bytes(black_box(table), hidden(verdict)));
+                used(rust_admit_words(black_box(table), hidden(verdict)));
             }
         }
     });
-    row.ways = vec![ours, rust, on_bytes];
+    row.ways = vec![ours, rust, on_words];
     row
 }
 
@@ -511,9 +510,9 @@ fn around_release(n: u32) -> Ends {
 fn accepted_release(n: u32) -> Row {
     let Ends { from, to } = around_release(n);
     let calls = n * COPIES as u32;
-    let bytes = [&from, &to].map(|both| vec![both.bytes; COPIES]);
+    let words = [&from, &to].map(|both| vec![both.words; COPIES]);
     let structs = [&from, &to].map(|both| vec![both.state.clone(); COPIES]);
-    let ours = Way::new(calls, bytes.clone(), move |states| {
+    let ours = Way::new(calls, words.clone(), move |states| {
         for state in states {
             for task in 1..=n {
                 used(our_release(hidden(state), task, black_box(1)));
@@ -527,15 +526,15 @@ fn accepted_release(n: u32) -> Row {
             }
         }
     });
-    let on_bytes = Way::new(calls, bytes, move |states| {
+    let on_words = Way::new(calls, words, move |states| {
         for state in states {
             for task in 1..=n {
-                used(rust_release_bytes(hidden(state), task, black_box(1)));
+                used(rust_release_words(hidden(state), task, black_box(1)));
             }
         }
     });
     let what = format!("accepted, {}", tasks(n));
-    Row::new(what, vec![ours, rust, on_bytes])
+    Row::new(what, vec![ours, rust, on_words])
 }
 
 /// Each task in turn is released while it is at work: refusal 11, on one state.
@@ -546,7 +545,7 @@ fn refused_release(n: u32) -> Row {
     }
     let turns = 9600 / n;
     let calls = turns * n;
-    let ours = Way::new(calls, [at.bytes; 2], move |state| {
+    let ours = Way::new(calls, [at.words; 2], move |state| {
         for _ in 0..turns {
             for task in 1..=n {
                 used(our_release(hidden(state), task, black_box(1)));
@@ -560,21 +559,21 @@ fn refused_release(n: u32) -> Row {
             }
         }
     });
-    let on_bytes = Way::new(calls, [at.bytes; 2], move |state| {
+    let on_words = Way::new(calls, [at.words; 2], move |state| {
         for _ in 0..turns {
             for task in 1..=n {
-                used(rust_release_bytes(hidden(state), task, black_box(1)));
+                used(rust_release_words(hidden(state), task, black_box(1)));
             }
         }
     });
     let what = format!("refused with 11, {}", tasks(n));
-    Row::new(what, vec![ours, rust, on_bytes])
+    Row::new(what, vec![ours, rust, on_words])
 }
 
 /// One call a step.
 fn step(kind: Kind, n: u32) -> Row {
     let (ends, _) = kind.stretch(n);
-    let ours = Way::new(STRETCH, ends.on_bytes(), |(state, tally)| {
+    let ours = Way::new(STRETCH, ends.on_words(), |(state, tally)| {
         for _ in 0..STRETCH {
             used(our_step(hidden(state), hidden(tally)));
         }
@@ -584,23 +583,23 @@ fn step(kind: Kind, n: u32) -> Row {
             used(rust_step(hidden(state), hidden(tally)));
         }
     });
-    let on_bytes = Way::new(STRETCH, ends.on_bytes(), |(state, tally)| {
+    let on_words = Way::new(STRETCH, ends.on_words(), |(state, tally)| {
         for _ in 0..STRETCH {
-            used(rust_step_bytes(hidden(state), hidden(tally)));
+            used(rust_step_words(hidden(state), hidden(tally)));
         }
     });
-    Row::new(kind_of(kind, n), vec![ours, rust, on_bytes])
+    Row::new(kind_of(kind, n), vec![ours, rust, on_words])
 }
 
 /// A stretch of steps inside one call.
 fn step_alone(kind: Kind, n: u32) -> Row {
     let (ends, answer) = kind.stretch(n);
-    let ours = Way::new(STRETCH, ends.on_bytes(), move |(state, tally)| {
-        let last = our_laps(hidden(state), hidden(tally), black_box(STRETCH));
-        assert_eq!(last, answer, "laps_on");
+    let ours = Way::new(STRETCH, ends.on_words(), move |(state, tally)| {
+        let last = our_steps(hidden(state), hidden(tally), black_box(STRETCH));
+        assert_eq!(last, answer, "steps_on");
     });
     let rust = Way::new(STRETCH, ends.in_structs(), move |(state, tally)| {
-        let last = rust_laps(hidden(state), hidden(tally), black_box(STRETCH));
+        let last = rust_steps(hidden(state), hidden(tally), black_box(STRETCH));
         assert_eq!(told_tick(last), answer);
     });
     Row::new(kind_of(kind, n), vec![ours, rust])
@@ -610,14 +609,14 @@ fn step_alone(kind: Kind, n: u32) -> Row {
 /// released, so there is no run.
 fn step_by_value(kind: Kind, n: u32) -> Row {
     let table = kind.table(n);
-    let counts = rust_laps_from_start(&table, STRETCH);
+    let counts = rust_steps_from_start(&table, STRETCH);
     let tables = [table.clone(), table];
     let ours = Way::new(STRETCH, tables.clone(), move |table| {
-        let ours = our_laps_by_value(hidden(table), black_box(STRETCH));
-        assert_eq!(ours, counts, "laps_by_value");
+        let ours = our_steps_by_value(hidden(table), black_box(STRETCH));
+        assert_eq!(ours, counts, "steps_by_value");
     });
     let rust = Way::new(STRETCH, tables, move |table| {
-        let rust = rust_laps_from_start(hidden(table), black_box(STRETCH));
+        let rust = rust_steps_from_start(hidden(table), black_box(STRETCH));
         assert_eq!(rust, counts);
     });
     Row::new(kind_of(kind, n), vec![ours, rust])
@@ -643,7 +642,7 @@ fn mixed() -> Row {
     let ends = Ends { from, to };
     let all = Rc::new(calls);
     let calls = Rc::clone(&all);
-    let ours = Way::new(STRETCH, ends.on_bytes(), move |(state, tally)| {
+    let ours = Way::new(STRETCH, ends.on_words(), move |(state, tally)| {
         for &call in calls.iter() {
             match call {
                 (0, _) => used(our_step(hidden(state), hidden(tally))),
@@ -661,36 +660,36 @@ fn mixed() -> Row {
         }
     });
     let calls = all;
-    let on_bytes = Way::new(STRETCH, ends.on_bytes(), move |(state, tally)| {
+    let on_words = Way::new(STRETCH, ends.on_words(), move |(state, tally)| {
         for &call in calls.iter() {
             match call {
-                (0, _) => used(rust_step_bytes(hidden(state), hidden(tally))),
-                (task, demand) => used(rust_release_bytes(hidden(state), task, demand)),
+                (0, _) => used(rust_step_words(hidden(state), hidden(tally))),
+                (task, demand) => used(rust_release_words(hidden(state), task, demand)),
             }
         }
     });
     let what = "house table, worst pattern: a tick and its releases";
-    Row::new(what, vec![ours, rust, on_bytes])
+    Row::new(what, vec![ours, rust, on_words])
 }
 
 /// Readings of 64 tallies at several powers.
 fn energy() -> Row {
     const TURNS: u32 = 200;
     let mut structs = Vec::new();
-    let mut bytes = Vec::new();
+    let mut words = Vec::new();
     for i in 1..=64 {
         let [run, slot, tail] = [7, 5, 3].map(|part| part * i * 400_009);
         let tally = Tally { run, slot, tail };
         let (run_power, sleep_power) = (i * 15_013, i * 16);
         let nanojoules = model::energy(&tally, run_power, sleep_power).expect("accepted");
-        let answer = our_energy(&tally.to_bytes(), run_power, sleep_power);
+        let answer = our_energy(&tally.to_words(), run_power, sleep_power);
         assert_eq!(answer, nanojoules << 8, "energy");
         structs.push((tally, run_power, sleep_power));
-        bytes.push((tally.to_bytes(), run_power, sleep_power));
+        words.push((tally.to_words(), run_power, sleep_power));
     }
     let calls = TURNS * structs.len() as u32;
-    let bytes = [bytes.clone(), bytes];
-    let ours = Way::new(calls, bytes.clone(), |readings| {
+    let words = [words.clone(), words];
+    let ours = Way::new(calls, words.clone(), |readings| {
         for _ in 0..TURNS {
             for (tally, run_power, sleep_power) in readings.iter() {
                 used(our_energy(black_box(tally), *run_power, *sleep_power));
@@ -704,15 +703,15 @@ fn energy() -> Row {
             }
         }
     });
-    let on_bytes = Way::new(calls, bytes, |readings| {
+    let on_words = Way::new(calls, words, |readings| {
         for _ in 0..TURNS {
             for (tally, run_power, sleep_power) in readings.iter() {
                 let tally = black_box(tally);
-                used(rust_energy_bytes(tally, *run_power, *sleep_power));
+                used(rust_energy_words(tally, *run_power, *sleep_power));
             }
         }
     });
-    Row::new("energy of a tally", vec![ours, rust, on_bytes])
+    Row::new("energy of a tally", vec![ours, rust, on_words])
 }
 
 fn task_count(table: &[u8]) -> u32 {
@@ -764,9 +763,9 @@ fn with_spread(middle: f64, values: &[f64]) -> String {
 
 fn print_rows(title: &str, ours: &str, rows: &[Row]) {
     println!("\n## {title}\n");
-    let on_bytes = rows[0].ways.len() > 2;
-    let (head, line) = match on_bytes {
-        true => (" Rust on bytes ns |", "---:|"),
+    let on_words = rows[0].ways.len() > 2;
+    let (head, line) = match on_words {
+        true => (" Rust on words ns |", "---:|"),
         false => ("", ""),
     };
     println!("| what | {ours} ns | Rust ns | ratio |{head}");
@@ -775,7 +774,7 @@ fn print_rows(title: &str, ours: &str, rows: &[Row]) {
         let [ours, rust] = [0, 1].map(|way| row.time_with_spread(way));
         let ratio = row.ratio_with_spread();
         print!("| {} | {ours} | {rust} | {ratio} |", row.what);
-        if on_bytes {
+        if on_words {
             print!(" {} |", row.time_with_spread(2));
         }
         println!();
@@ -871,7 +870,7 @@ const ABOUT_TIMES: &str = "
 Nanoseconds a call: the median of the repeats and in brackets their range, the three least and the
 three most left out. The ratio is ours over Rust, of the medians; in brackets the range of the
 repeats' own ratios, three and three left out. Rust is `compare/model.rs` on its own structs by
-`&mut`, every check of document 01 at each call. \"Rust on bytes\" is the model on our buffers: it
+`&mut`, every check of document 01 at each call. \"Rust on words\" is the model on our buffers: it
 decodes, calls and encodes; for information.";
 
 const ABOUT_STACK: &str = "
@@ -954,13 +953,13 @@ fn main() {
     );
     print_rows("Step, one call each", "node_step", steps);
     print_rows(
-        "Step alone, many in one call on the bytes",
-        "laps_on",
+        "Step alone, many in one call on the words",
+        "steps_on",
         alone,
     );
     print_rows(
         "Step alone, many in one call by value",
-        "laps_by_value",
+        "steps_by_value",
         by_value,
     );
     println!("\nRust in both: many steps in one call, the state by `&mut`.");
@@ -977,7 +976,7 @@ fn main() {
     let mut aims = vec![
         ratio_aim("admission", 1.2, every_admission),
         ratio_aim("step, one call each", 2.0, steps.iter()),
-        ratio_aim("step, many in one call on the bytes", 2.0, alone.iter()),
+        ratio_aim("step, many in one call on the words", 2.0, alone.iter()),
         ratio_aim("step, many in one call by value", 2.0, by_value.iter()),
     ];
     aims.extend(code_aims(&code));

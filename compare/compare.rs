@@ -1,14 +1,15 @@
 //! compare [SEED [SECONDS]]: the archive libnode.a against the model, on random inputs.
 //!
-//! Every call is made on both sides with the same bytes; the answer and every byte of every buffer
-//! must agree. The inputs follow from the seed alone; the time says how many of them are tried.
+//! Every call is made on both sides with the same table or words; the answer and all of every
+//! buffer must agree. The inputs follow from the seed alone; the time says how many are tried.
 
 mod model;
 mod node;
 
-use model::{set_words, word, STATE_BYTES, TALLY_BYTES, VERDICT_BYTES};
+use model::{word, STATE_WORDS, TALLY_WORDS, VERDICT_WORDS};
 use node::{node_admit, node_energy, node_release, node_start, node_step};
 use std::array::from_fn;
+use std::fmt::Debug;
 use std::process::exit;
 use std::sync::atomic::{AtomicPtr, Ordering};
 use std::time::{Duration, Instant};
@@ -61,35 +62,37 @@ impl Random {
         value.wrapping_add(self.below(3)).wrapping_sub(1)
     }
 
-    fn bytes(&mut self, len: usize) -> Vec<u8> {
-        let mut bytes = vec![0; len];
-        for to in bytes.chunks_mut(8) {
-            to.copy_from_slice(&self.next().to_le_bytes()[..to.len()]);
-        }
-        bytes
+    fn words(&mut self, len: usize) -> Vec<u32> {
+        (0..len).map(|_| self.word()).collect()
     }
 
-    /// A buffer of random bytes, now and then of another length than its own.
-    fn buffer(&mut self, own: usize) -> Vec<u8> {
+    /// A buffer of random words, now and then of another length than its own.
+    fn buffer(&mut self, own: usize) -> Vec<u32> {
         let other = self.other_length(own);
         let len = if self.chance(12) { other } else { own };
-        self.bytes(len)
+        self.words(len)
     }
 
+    /// In words; the last are the lengths of all buffers, in words and in bytes.
     fn other_length(&mut self, own: usize) -> usize {
         match self.below(40) {
             0 => own + 65_536,
             1..=3 => own + 256,
             4..=9 => self.index(700),
-            10..=19 => own + self.pick(&[1, 4]),
-            20..=29 => own - self.pick(&[1, 4]),
-            _ => self.pick(&[0, 1, 4, 12, 192, 600]),
+            10..=19 => own + self.pick(&[1, 2, 9]),
+            20..=29 => own - self.pick(&[1, 2]),
+            _ => self.pick(&[0, 3, 12, 48, 150, 192, 600]),
         }
     }
 
-    /// What a word is changed to; `others` are the words to take a value from.
-    fn spoiled(&mut self, old: u32, others: &[u8]) -> u32 {
-        let other = word(others, self.index(others.len() / 4));
+    /// A word with another byte somewhere.
+    fn other_byte(&mut self, old: u32) -> u32 {
+        let byte = 0xff << (8 * self.below(4));
+        old & !byte | self.word() & byte
+    }
+
+    /// What a word is changed to; `other` is a word from elsewhere.
+    fn spoiled(&mut self, old: u32, other: u32) -> u32 {
         match self.below(14) {
             0 => 0,
             1 => 1,
@@ -122,7 +125,9 @@ enum Call {
 
 struct About {
     name: &'static str,
-    lent: &'static [&'static str],
+    /// Is it lent a table, and which buffers of words?
+    table: bool,
+    words: &'static [&'static str],
     numbers: &'static [&'static str],
     /// The refusals that it can give.
     refusals: &'static [usize],
@@ -131,15 +136,15 @@ struct About {
 /// By call.
 #[rustfmt::skip]
 const ABOUT: [About; 5] = [
-    About { name: "admit", lent: &["table", "verdict"], numbers: &[],
+    About { name: "admit", table: true, words: &["verdict"], numbers: &[],
             refusals: &[1, 2, 3, 4, 5, 6] },
-    About { name: "start", lent: &["table", "state"], numbers: &[],
+    About { name: "start", table: true, words: &["state"], numbers: &[],
             refusals: &[1, 2, 3, 4, 6] },
-    About { name: "release", lent: &["state"], numbers: &["task", "demand"],
+    About { name: "release", table: false, words: &["state"], numbers: &["task", "demand"],
             refusals: &[6, 7, 8, 9, 10, 11, 12] },
-    About { name: "step", lent: &["state", "tally"], numbers: &[],
+    About { name: "step", table: false, words: &["state", "tally"], numbers: &[],
             refusals: &[6, 7] },
-    About { name: "energy", lent: &["tally"], numbers: &["run power", "sleep power"],
+    About { name: "energy", table: false, words: &["tally"], numbers: &["run power", "sleep power"],
             refusals: &[6, 13] },
 ];
 
@@ -155,49 +160,72 @@ const KINDS: [&str; 8] = [
     "refusal 5 after at least 20 rounds",
 ];
 
-/// Memory from which a buffer is lent to the archive, at changing alignments and with a guard on
-/// either side.
+/// Memory from which a buffer of bytes or words is lent to the archive, at changing alignments and
+/// with a guard on either side; and a copy of what was given, for the report.
 #[derive(Default)]
-struct Room {
-    bytes: Vec<u8>,
+struct Room<T> {
+    held: Vec<T>,
     at: usize,
-    guard: u8,
+    guard: T,
+    given: Vec<T>,
 }
 
 const GUARD: usize = 32;
 
-impl Room {
-    fn lend(&mut self, given: &[u8], call: u64) -> *mut u8 {
+impl<T: Copy + Debug + Default + From<u8> + PartialEq> Room<T> {
+    fn lend(&mut self, given: &[T], call: u64) -> *mut T {
+        self.given.clear();
+        self.given.extend_from_slice(given);
         self.at = GUARD + call as usize % 8;
-        self.guard = (call / 8) as u8;
+        self.guard = T::from((call / 8) as u8);
         let end = self.at + given.len();
-        if self.bytes.len() < end + GUARD {
-            self.bytes.resize(end + GUARD, 0);
+        if self.held.len() < end + GUARD {
+            self.held.resize(end + GUARD, T::default());
         }
-        self.bytes[self.at - GUARD..self.at].fill(self.guard);
-        self.bytes[self.at..end].copy_from_slice(given);
-        self.bytes[end..end + GUARD].fill(self.guard);
-        self.bytes[self.at..end].as_mut_ptr()
+        self.held[self.at - GUARD..self.at].fill(self.guard);
+        self.held[self.at..end].copy_from_slice(given);
+        self.held[end..end + GUARD].fill(self.guard);
+        self.held[self.at..end].as_mut_ptr()
     }
 
-    fn back(&self, len: usize) -> &[u8] {
-        &self.bytes[self.at..self.at + len]
+    fn back(&self) -> &[T] {
+        &self.held[self.at..self.at + self.given.len()]
     }
 
-    fn guarded(&self, len: usize) -> bool {
-        let end = self.at + len;
+    fn guarded(&self) -> bool {
+        let end = self.at + self.given.len();
         let guard = [self.guard; GUARD];
-        self.bytes[self.at - GUARD..self.at] == guard && self.bytes[end..end + GUARD] == guard
+        self.held[self.at - GUARD..self.at] == guard && self.held[end..end + GUARD] == guard
+    }
+
+    /// `after` is what the model left.
+    fn agrees(&self, after: &[T]) -> bool {
+        self.back() == after && self.guarded()
+    }
+
+    fn print_given(&self, name: &str, unit: &str) {
+        println!("{name}, {} {unit}: {:?}", self.given.len(), self.given);
+    }
+
+    fn print_left(&self, name: &str, after: &[T]) {
+        println!("{name} left by archive: {:?}", self.back());
+        println!("{name} left by model:   {after:?}");
+        if !self.guarded() {
+            println!("the archive wrote outside the {name}");
+        }
     }
 }
+
+/// The buffers of a call: a table, and one or two of words; what it is not lent is empty.
+struct Lent<'a>(&'a [u8], [&'a [u32]; 2]);
 
 struct Both {
     seed: u64,
     calls: u64,
-    rooms: [Room; 2],
+    table: Room<u8>,
+    words: [Room<u32>; 2],
     /// The call under way, for the report.
     call: Call,
-    given: [Vec<u8>; 2],
     numbers: [u32; 2],
     /// By call and refusal number, 0 where accepted.
     counts: [[u64; 14]; 5],
@@ -210,9 +238,9 @@ impl Both {
         Both {
             seed,
             calls: 0,
-            rooms: Default::default(),
+            table: Room::default(),
+            words: Default::default(),
             call: Call::Admit,
-            given: Default::default(),
             numbers: [0; 2],
             counts: [[0; 14]; 5],
             kinds: [0; KINDS.len()],
@@ -220,13 +248,13 @@ impl Both {
         }
     }
 
-    fn admit(&mut self, table: &[u8], verdict: &mut [u8]) {
-        let [t, v] = self.lend(Call::Admit, [table, verdict], [0, 0]);
+    fn admit(&mut self, table: &[u8], verdict: &mut [u32]) {
+        let (t, [v, _]) = self.lend(Call::Admit, Lent(table, [verdict, &[]]), [0, 0]);
         let archive = unsafe { node_admit(t, table.len(), v, verdict.len()) };
-        let model = model::admit_bytes(table, verdict);
-        self.judge([table, verdict], archive, model);
+        let model = model::admit_words(table, verdict);
+        self.judge(Lent(table, [verdict, &[]]), archive, model);
         let (kind, rounds) = match model & 0xff {
-            0 => (4, (32..48).map(|at| word(verdict, at)).max().unwrap()),
+            0 => (4, verdict[32..].iter().copied().max().unwrap()),
             5 => (6, (model >> 16) as u32),
             _ => return,
         };
@@ -235,25 +263,25 @@ impl Both {
         self.most_rounds = self.most_rounds.max(rounds);
     }
 
-    fn start(&mut self, table: &[u8], state: &mut [u8]) {
-        let [t, s] = self.lend(Call::Start, [table, state], [0, 0]);
+    fn start(&mut self, table: &[u8], state: &mut [u32]) {
+        let (t, [s, _]) = self.lend(Call::Start, Lent(table, [state, &[]]), [0, 0]);
         let archive = unsafe { node_start(t, table.len(), s, state.len()) };
-        let model = model::start_bytes(table, state);
-        self.judge([table, state], archive, model);
+        let model = model::start_words(table, state);
+        self.judge(Lent(table, [state, &[]]), archive, model);
     }
 
-    fn release(&mut self, state: &mut [u8], task: u32, demand: u32) {
-        let [s, _] = self.lend(Call::Release, [state, &[]], [task, demand]);
+    fn release(&mut self, state: &mut [u32], task: u32, demand: u32) {
+        let (_, [s, _]) = self.lend(Call::Release, Lent(&[], [state, &[]]), [task, demand]);
         let archive = unsafe { node_release(s, state.len(), task, demand) };
-        let model = model::release_bytes(state, task, demand);
-        self.judge([state, &[]], archive, model);
+        let model = model::release_words(state, task, demand);
+        self.judge(Lent(&[], [state, &[]]), archive, model);
     }
 
-    fn step(&mut self, state: &mut [u8], tally: &mut [u8]) {
-        let [s, y] = self.lend(Call::Step, [state, tally], [0, 0]);
+    fn step(&mut self, state: &mut [u32], tally: &mut [u32]) {
+        let (_, [s, y]) = self.lend(Call::Step, Lent(&[], [state, tally]), [0, 0]);
         let archive = unsafe { node_step(s, state.len(), y, tally.len()) };
-        let model = model::step_bytes(state, tally);
-        self.judge([state, tally], archive, model);
+        let model = model::step_words(state, tally);
+        self.judge(Lent(&[], [state, tally]), archive, model);
         match (model & 0xff, model >> 8 & 0xff, model >> 16) {
             (0, 0, 1) => self.kinds[0] += 1,
             (0, kind, _) => self.kinds[1 + kind as usize] += 1,
@@ -261,32 +289,30 @@ impl Both {
         }
     }
 
-    fn energy(&mut self, tally: &[u8], run_power: u32, sleep_power: u32) {
-        let [y, _] = self.lend(Call::Energy, [tally, &[]], [run_power, sleep_power]);
+    fn energy(&mut self, tally: &[u32], run_power: u32, sleep_power: u32) {
+        let lent = Lent(&[], [tally, &[]]);
+        let (_, [y, _]) = self.lend(Call::Energy, lent, [run_power, sleep_power]);
         let archive = unsafe { node_energy(y, tally.len(), run_power, sleep_power) };
-        let model = model::energy_bytes(tally, run_power, sleep_power);
-        self.judge([tally, &[]], archive, model);
+        let model = model::energy_words(tally, run_power, sleep_power);
+        self.judge(Lent(&[], [tally, &[]]), archive, model);
     }
 
-    fn lend(&mut self, call: Call, given: [&[u8]; 2], numbers: [u32; 2]) -> [*mut u8; 2] {
+    fn lend(&mut self, call: Call, given: Lent, numbers: [u32; 2]) -> (*mut u8, [*mut u32; 2]) {
         self.calls += 1;
         self.call = call;
         self.numbers = numbers;
-        for (copy, bytes) in self.given.iter_mut().zip(given) {
-            copy.clear();
-            copy.extend_from_slice(bytes);
-        }
-        let [first, second] = &mut self.rooms;
         let turn = self.calls;
-        [first.lend(given[0], turn), second.lend(given[1], turn / 3)]
+        let Lent(table, [first, second]) = given;
+        let [to_first, to_second] = &mut self.words;
+        let words = [to_first.lend(first, turn), to_second.lend(second, turn / 3)];
+        (self.table.lend(table, turn / 5), words)
     }
 
     /// `after` is what the model left in the buffers.
-    fn judge(&mut self, after: [&[u8]; 2], archive: u64, model: u64) {
-        let agrees = |(room, after): (&Room, &[u8])| {
-            room.back(after.len()) == after && room.guarded(after.len())
-        };
-        if archive != model || !self.rooms.iter().zip(after).all(agrees) {
+    fn judge(&mut self, after: Lent, archive: u64, model: u64) {
+        let mut words = self.words.iter().zip(after.1);
+        let agree = self.table.agrees(after.0) && words.all(|(room, after)| room.agrees(after));
+        if archive != model || !agree {
             self.report(after, archive, model);
         }
         self.counts[self.call as usize][(model & 0xff) as usize] += 1;
@@ -296,35 +322,33 @@ impl Both {
         let about = &ABOUT[self.call as usize];
         let (call, seed) = (self.calls, self.seed);
         println!("call {call} of seed {seed}: node_{}", about.name);
-        for (name, bytes) in about.lent.iter().zip(&self.given) {
-            println!("{name}, {} bytes: {}", bytes.len(), hex(bytes));
+        if about.table {
+            self.table.print_given("table", "bytes");
+        }
+        for (name, room) in about.words.iter().zip(&self.words) {
+            room.print_given(name, "words");
         }
         for (name, number) in about.numbers.iter().zip(self.numbers) {
             println!("{name}: {number}");
         }
     }
 
-    fn report(&self, after: [&[u8]; 2], archive: u64, model: u64) -> ! {
+    fn report(&self, after: Lent, archive: u64, model: u64) -> ! {
         println!("DIFFERENCE");
         self.print_given();
         for (side, answer) in [("archive", archive), ("model", model)] {
             let [low, next, rest] = [answer & 0xff, answer >> 8 & 0xff, answer >> 16];
             println!("{side} answers {answer:#x}: number {low}, then {next}, then {rest}");
         }
-        let names = ABOUT[self.call as usize].lent;
-        for ((name, room), after) in names.iter().zip(&self.rooms).zip(after) {
-            println!("{name} left by archive: {}", hex(room.back(after.len())));
-            println!("{name} left by model:   {}", hex(after));
-            if !room.guarded(after.len()) {
-                println!("the archive wrote outside the {name}");
-            }
+        let about = &ABOUT[self.call as usize];
+        if about.table {
+            self.table.print_left("table", after.0);
+        }
+        for ((name, room), after) in about.words.iter().zip(&self.words).zip(after.1) {
+            room.print_left(name, after);
         }
         exit(1)
     }
-}
-
-fn hex(bytes: &[u8]) -> String {
-    bytes.iter().map(|byte| format!("{byte:02x}")).collect()
 }
 
 /// For a call that ends by a fault, which is a difference too.
@@ -346,6 +370,10 @@ type Set = Vec<[u32; 4]>;
 fn bytes_of(set: &[[u32; 4]]) -> Vec<u8> {
     let words = set.iter().flatten();
     words.flat_map(|word| word.to_le_bytes()).collect()
+}
+
+fn set_word(table: &mut [u8], at: usize, value: u32) {
+    table[4 * at..4 * at + 4].copy_from_slice(&value.to_le_bytes());
 }
 
 /// A sound set, small (so that there are many windows and near misses) or large.
@@ -425,8 +453,9 @@ fn damage(random: &mut Random, table: &mut Vec<u8>) {
     let [work, period] = [1, 2].map(|i| word(table, at + i));
     let [s, h, first_period] = [1, 2, 6].map(|i| word(table, i));
     let any = random.index(4 * records);
+    let other = word(table, random.index(4 * records));
     let (at, value) = match random.below(13) {
-        0 => (at + 3, random.spoiled(0, table)),
+        0 => (at + 3, random.spoiled(0, other)),
         1 => (at + 1, 0),
         2 => (at + 1, period.wrapping_add(random.among(1, 2))),
         3 => (at + 2, work.wrapping_sub(1)),
@@ -434,7 +463,7 @@ fn damage(random: &mut Random, table: &mut Vec<u8>) {
         // A period that falls, and nothing else wrong.
         5 | 6 if record >= 2 => {
             let fallen = word(table, at - 2).wrapping_sub(random.among(1, 2));
-            set_words(table, at + 1, &[work.min(fallen)]);
+            set_word(table, at + 1, work.min(fallen));
             (at + 2, fallen)
         }
         // Sleep time, harmonizing period and the first period.
@@ -442,13 +471,10 @@ fn damage(random: &mut Random, table: &mut Vec<u8>) {
         8 => (2, s),
         9 => (2, random.near(h)),
         10 => (6, random.near(first_period)),
-        11 => (any, random.spoiled(word(table, any), table)),
-        _ => {
-            let byte = 0xff << (8 * random.below(4));
-            (any, word(table, any) & !byte | random.word() & byte)
-        }
+        11 => (any, random.spoiled(word(table, any), other)),
+        _ => (any, random.other_byte(word(table, any))),
     };
-    set_words(table, at, &[value]);
+    set_word(table, at, value);
 }
 
 fn tables(random: &mut Random, both: &mut Both) {
@@ -460,15 +486,15 @@ fn tables(random: &mut Random, both: &mut Both) {
         let mut table = bytes_of(&set);
         if random.chance(3) {
             let len = random.index(400);
-            table = random.bytes(len);
+            table = (0..len).map(|_| random.word() as u8).collect();
         } else if random.chance(35) {
             for _ in 0..random.pick(&[1, 1, 1, 2, 3]) {
                 damage(random, &mut table);
             }
         }
-        both.admit(&table, &mut random.buffer(VERDICT_BYTES));
+        both.admit(&table, &mut random.buffer(VERDICT_WORDS));
         if random.chance(40) {
-            both.start(&table, &mut random.buffer(STATE_BYTES));
+            both.start(&table, &mut random.buffer(STATE_WORDS));
         }
     }
 }
@@ -476,7 +502,6 @@ fn tables(random: &mut Random, both: &mut Both) {
 // ---- Histories ----
 
 // Where the words of a state stand, and from place(i) on those of an entry.
-const WORDS: usize = STATE_BYTES / 4;
 const H: usize = 2;
 const N: usize = 4;
 const CLOCK: usize = 5;
@@ -492,53 +517,48 @@ fn place(i: usize) -> usize {
 
 #[derive(Clone)]
 struct Node {
-    state: Vec<u8>,
-    tally: Vec<u8>,
+    state: Vec<u32>,
+    tally: Vec<u32>,
 }
 
 impl Node {
-    fn get(&self, at: usize) -> u32 {
-        word(&self.state, at)
-    }
-
     fn set(&mut self, at: usize, words: &[u32]) {
-        set_words(&mut self.state, at, words);
+        self.state[at..at + words.len()].copy_from_slice(words);
     }
 
     /// May the task at place i be released at this clock?
     fn due(&self, i: usize) -> bool {
-        let [clock, h] = [CLOCK, H].map(|at| self.get(at));
+        let [clock, h] = [CLOCK, H].map(|at| self.state[at]);
         let [job, before, last, period] =
-            [JOB, BEFORE, LAST, PERIOD].map(|w| self.get(place(i) + w));
+            [JOB, BEFORE, LAST, PERIOD].map(|w| self.state[place(i) + w]);
         job == 0 && (before == 0 || clock.wrapping_sub(last) >= period) && (i > 0 || clock % h == 0)
     }
 
     /// Changes one count so that the tally sums to the clock, in 32 bits.
     fn settle(&mut self, random: &mut Random) {
-        let [a, b, c] = [0, 1, 2].map(|at| word(&self.tally, at));
+        let clock = self.state[CLOCK];
         let missing = self
-            .get(CLOCK)
-            .wrapping_sub(a)
-            .wrapping_sub(b)
-            .wrapping_sub(c);
-        let at = random.index(3);
-        let count = [a, b, c][at].wrapping_add(missing);
-        set_words(&mut self.tally, at, &[count]);
+            .tally
+            .iter()
+            .fold(clock, |left, count| left.wrapping_sub(*count));
+        let at = random.index(TALLY_WORDS);
+        self.tally[at] = self.tally[at].wrapping_add(missing);
     }
 }
 
 fn any_release(random: &mut Random, both: &mut Both, node: &mut Node) {
-    let n = node.get(N);
+    let n = node.state[N];
     let places = n.clamp(1, 16) as usize;
     let mut i = random.index(places);
     if random.chance(50) {
         i = (i..places).find(|&i| node.due(i)).unwrap_or(i);
     }
-    let (task, work) = (i as u32 + 1, node.get(place(i) + WORK));
+    let (task, work) = (i as u32 + 1, node.state[place(i) + WORK]);
+    let other = random.pick(&node.state);
     let demand = match random.below(12) {
         0 => 0,
         1 => work.wrapping_add(1),
-        2 => random.spoiled(work, &node.state),
+        2 => random.spoiled(work, other),
         3..=6 => work,
         _ => random.below(work).wrapping_add(1),
     };
@@ -552,9 +572,9 @@ fn any_release(random: &mut Random, both: &mut Both, node: &mut Node) {
 
 /// Moves the clock on, and some releases with it, in a lawful way.
 fn jump(random: &mut Random, node: &mut Node) {
-    let [clock, h, n] = [CLOCK, H, N].map(|at| node.get(at));
+    let [clock, h, n] = [CLOCK, H, N].map(|at| node.state[at]);
     let some = place(random.below(n) as usize);
-    let due = node.get(some + LAST) + node.get(some + PERIOD);
+    let due = node.state[some + LAST] + node.state[some + PERIOD];
     let boundary = clock - clock % h + h * random.among(1, 3);
     let to = match random.below(12) {
         0 => END - random.below(2 * h + 3),
@@ -571,7 +591,7 @@ fn jump(random: &mut Random, node: &mut Node) {
         if random.chance(50) {
             continue;
         }
-        let [work, period] = [WORK, PERIOD].map(|w| node.get(place(i) + w));
+        let [work, period] = [WORK, PERIOD].map(|w| node.state[place(i) + w]);
         let release = match random.below(4) {
             0 => to,
             1 => random.near(to - to % h),
@@ -598,8 +618,8 @@ fn history(random: &mut Random, both: &mut Both) -> Node {
         tighten(random, &mut set);
     }
     let mut node = Node {
-        state: random.bytes(STATE_BYTES),
-        tally: vec![0; TALLY_BYTES],
+        state: random.words(STATE_WORDS),
+        tally: vec![0; TALLY_WORDS],
     };
     both.start(&bytes_of(&set), &mut node.state);
     let n = set.len() - 1;
@@ -628,7 +648,7 @@ fn history(random: &mut Random, both: &mut Both) -> Node {
         }
         if random.chance(2) {
             saved = node.clone();
-        } else if random.chance(2) || node.get(CLOCK) == END && random.chance(20) {
+        } else if random.chance(2) || node.state[CLOCK] == END && random.chance(20) {
             node = saved.clone();
         }
     }
@@ -642,7 +662,7 @@ fn try_both(random: &mut Random, both: &mut Both, node: &Node) {
     let mut copy = node.clone();
     both.step(&mut copy.state, &mut copy.tally);
     copy.state.clone_from(&node.state);
-    if copy.state.len() == STATE_BYTES && copy.get(H) > 0 {
+    if copy.state.len() == STATE_WORDS && copy.state[H] > 0 {
         any_release(random, both, &mut copy);
     } else {
         both.release(&mut copy.state, random.among(1, 4), 1);
@@ -652,17 +672,17 @@ fn try_both(random: &mut Random, both: &mut Both, node: &Node) {
 /// Changes a lawful state or its tally in one way, and tries both calls.
 fn spoil(random: &mut Random, both: &mut Both, node: &Node) {
     let mut spoiled = node.clone();
-    let [clock, h, n] = [CLOCK, H, N].map(|at| node.get(at));
+    let [clock, h, n] = [CLOCK, H, N].map(|at| node.state[at]);
+    let other = random.pick(&node.state);
     match random.below(16) {
         0..=4 => {
-            let at = random.index(WORDS);
-            let value = random.spoiled(node.get(at), &node.state);
-            spoiled.set(at, &[value]);
+            let at = random.index(STATE_WORDS);
+            spoiled.state[at] = random.spoiled(node.state[at], other);
         }
         // One entry, in several words.
         5..=7 => {
             let at = place(random.index(16));
-            let [work, last] = [WORK, LAST].map(|w| node.get(at + w));
+            let [work, last] = [WORK, LAST].map(|w| node.state[at + w]);
             let release = random.pick(&[clock, clock - clock % h, last, last, 0]);
             let release = random.near(release);
             let last = random.pick(&[release, release, release, last, clock]);
@@ -675,57 +695,54 @@ fn spoil(random: &mut Random, both: &mut Both, node: &Node) {
         }
         // The rules of the table.
         8 => {
-            let records = (0..n as usize).map(|i| 4 * place(i));
-            let homes: Vec<usize> = [0].into_iter().chain(records).collect();
-            let mut table = Vec::new();
-            for home in &homes {
-                table.extend_from_slice(&node.state[*home..home + 16]);
-            }
+            let homes = || [0].into_iter().chain((0..n as usize).map(place));
+            let records: Set = homes().map(|at| from_fn(|w| node.state[at + w])).collect();
+            let mut table = bytes_of(&records);
             damage(random, &mut table);
-            for (home, record) in homes.iter().zip(table.chunks_exact(16)) {
-                spoiled.state[*home..home + 16].copy_from_slice(record);
+            for (at, record) in homes().zip(table.chunks_exact(16)) {
+                spoiled.set(at, &[0, 1, 2, 3].map(|w| word(record, w)));
             }
         }
         // A clock that the tally agrees with, then a tally that agrees in 32 bits only.
         9 => {
             let clocks = [END - 1, END, END + 1, u32::MAX, clock / 2, random.word()];
-            spoiled.set(CLOCK, &[random.pick(&clocks)]);
+            spoiled.state[CLOCK] = random.pick(&clocks);
             spoiled.settle(random);
         }
         10 => {
-            let counts = [random.word() | 1 << 31, random.word()];
-            set_words(&mut spoiled.tally, random.index(2), &counts);
+            let at = random.index(TALLY_WORDS - 1);
+            spoiled.tally[at] = random.word() | 1 << 31;
+            spoiled.tally[at + 1] = random.word();
             spoiled.settle(random);
         }
         11 => {
-            let at = random.index(3);
-            let value = random.spoiled(word(&node.tally, at), &node.state);
-            set_words(&mut spoiled.tally, at, &[value]);
+            let at = random.index(TALLY_WORDS);
+            spoiled.tally[at] = random.spoiled(node.tally[at], other);
         }
         // Fewer tasks or more, the last of them a copy of the first.
         12 => {
             let n = random.pick(&[0, n - 1, n + 1, 16, 17, u32::MAX, 1 << 31 | n]);
-            spoiled.set(N, &[n]);
+            spoiled.state[N] = n;
             if random.chance(50) && (1..=16).contains(&n) {
-                let last = 4 * place(n as usize - 1);
-                spoiled.state.copy_within(4 * place(0)..4 * place(1), last);
+                let last = place(n as usize - 1);
+                spoiled.state.copy_within(place(0)..place(1), last);
             }
         }
         13 => {
-            let len = random.other_length(STATE_BYTES);
+            let len = random.other_length(STATE_WORDS);
             spoiled.state.resize(len, 0);
         }
         14 => {
-            let len = random.other_length(TALLY_BYTES);
+            let len = random.other_length(TALLY_WORDS);
             spoiled.tally.resize(len, 0);
         }
         _ => match random.below(3) {
-            0 => spoiled.state = random.bytes(STATE_BYTES),
+            0 => spoiled.state = random.words(STATE_WORDS),
             1 => spoiled.state.fill(0),
             _ => {
                 for _ in 0..random.among(1, 6) {
-                    let at = random.index(STATE_BYTES);
-                    spoiled.state[at] = random.word() as u8;
+                    let at = random.index(STATE_WORDS);
+                    spoiled.state[at] = random.other_byte(spoiled.state[at]);
                 }
             }
         },
@@ -735,23 +752,22 @@ fn spoil(random: &mut Random, both: &mut Both, node: &Node) {
 
 /// Every word of a lawful state in turn, and of its tally.
 fn sweep(random: &mut Random, both: &mut Both, node: &Node) {
-    for at in 0..WORDS {
-        let old = node.get(at);
+    for at in 0..STATE_WORDS {
+        let old = node.state[at];
         let bit = 1 << random.below(32);
-        let other = node.get(random.index(WORDS));
+        let other = random.pick(&node.state);
         let edges = [0, 1, LONGEST, LONGEST + 1, END, END + 1, u32::MAX];
         let near = [old.wrapping_add(1), old.wrapping_sub(1), old ^ bit];
         let mut spoiled = node.clone();
         for value in edges.into_iter().chain(near).chain([other, random.word()]) {
-            spoiled.set(at, &[value]);
+            spoiled.state[at] = value;
             try_both(random, both, &spoiled);
         }
     }
-    for at in 0..3 {
+    for at in 0..TALLY_WORDS {
         for more in [1, 2, 1 << 16, 1 << 31, u32::MAX - 1, u32::MAX] {
             let mut spoiled = node.clone();
-            let count = word(&node.tally, at).wrapping_add(more);
-            set_words(&mut spoiled.tally, at, &[count]);
+            spoiled.tally[at] = node.tally[at].wrapping_add(more);
             try_both(random, both, &spoiled);
         }
     }
@@ -794,9 +810,9 @@ fn power(random: &mut Random) -> u32 {
 
 fn energies(random: &mut Random, both: &mut Both) {
     for _ in 0..40 {
-        let mut tally = random.buffer(TALLY_BYTES);
-        if tally.len() == TALLY_BYTES {
-            set_words(&mut tally, 0, &counts(random));
+        let mut tally = random.buffer(TALLY_WORDS);
+        for (to, count) in tally.iter_mut().zip(counts(random)) {
+            *to = count;
         }
         both.energy(&tally, power(random), power(random));
     }

@@ -1,15 +1,17 @@
 //! Document 01 written a second time, from its text alone: plain Rust, no proofs, nothing shared
-//! with the proved crates. First the rules, then the byte layouts and calls of `include/node.h`,
+//! with the proved crates. First the rules, then the layouts and calls of `include/node.h`,
 //! then document 01's own cases.
 
 #![allow(dead_code)] // not every program that takes this module uses all of it
 
+use std::array::from_fn;
+
 const PLACES: usize = 16;
 const CLOCK_END: u32 = 1_000_000_000;
 const MOST_POWER: u32 = 1_000_000;
-pub const STATE_BYTES: usize = 600;
-pub const TALLY_BYTES: usize = 12;
-pub const VERDICT_BYTES: usize = 192;
+pub const STATE_WORDS: usize = 150;
+pub const TALLY_WORDS: usize = 3;
+pub const VERDICT_WORDS: usize = 48;
 
 #[derive(Clone, Copy, Debug, Default, PartialEq)]
 pub struct Record {
@@ -99,7 +101,7 @@ fn read(table: &[u8]) -> Result<([Record; 17], usize), Refusal> {
     }
     let mut records = [Record::default(); 17];
     for (i, bytes) in table.chunks_exact(16).enumerate() {
-        records[i] = Record::from_bytes(bytes);
+        records[i] = Record::from_words(from_fn(|field| word(bytes, field)));
         if !records[i].lawful() {
             return refuse(2, i, 0);
         }
@@ -300,46 +302,41 @@ pub fn energy(tally: &Tally, run_power: u32, sleep_power: u32) -> Result<u64, u3
 
 // The layouts of node.h.
 
-pub fn word(bytes: &[u8], at: usize) -> u32 {
-    u32::from_le_bytes(bytes[4 * at..4 * at + 4].try_into().unwrap())
-}
-
-pub fn set_words(bytes: &mut [u8], at: usize, words: &[u32]) {
-    for (to, word) in bytes[4 * at..].chunks_exact_mut(4).zip(words) {
-        to.copy_from_slice(&word.to_le_bytes());
-    }
+/// A number of a table, the first of them at 0.
+pub fn word(table: &[u8], at: usize) -> u32 {
+    u32::from_le_bytes(table[4 * at..4 * at + 4].try_into().unwrap())
 }
 
 impl Record {
-    fn from_bytes(bytes: &[u8]) -> Record {
-        let [label, work, period, reserved] = [0, 1, 2, 3].map(|at| word(bytes, at));
+    fn from_words([label, work, period, reserved]: [u32; 4]) -> Record {
         #[rustfmt::skip]
         return Record { label, work, period, reserved };
     }
 
-    fn words(&self) -> [u32; 4] {
+    fn to_words(self) -> [u32; 4] {
         [self.label, self.work, self.period, self.reserved]
     }
 }
 
 impl State {
-    /// None where the bytes encode no state; a state that breaks the rules is still one.
-    pub fn from_bytes(bytes: &[u8]) -> Option<State> {
-        if bytes.len() != STATE_BYTES {
+    /// None where the words encode no state; a state that breaks the rules is still one.
+    pub fn from_words(words: &[u32]) -> Option<State> {
+        if words.len() != STATE_WORDS {
             return None;
         }
+        let record = |from: &[u32]| Record::from_words(from_fn(|field| from[field]));
         let mut state = State::default();
-        state.sleep = Record::from_bytes(bytes);
-        state.n = word(bytes, 4);
-        state.clock = word(bytes, 5);
-        for (entry, from) in state.entries.iter_mut().zip(bytes[24..].chunks_exact(36)) {
-            entry.record = Record::from_bytes(from);
-            entry.job = match [4, 5, 6].map(|at| word(from, at)) {
+        state.sleep = record(words);
+        state.n = words[4];
+        state.clock = words[5];
+        for (entry, from) in state.entries.iter_mut().zip(words[6..].chunks_exact(9)) {
+            entry.record = record(from);
+            entry.job = match from[4..7] {
                 [0, 0, 0] => Job::Resting,
                 [1, release, left] => Job::Working { release, left },
                 _ => return None,
             };
-            entry.last = match [7, 8].map(|at| word(from, at)) {
+            entry.last = match from[7..] {
                 [0, 0] => Last::Never,
                 [1, last] => Last::At(last),
                 _ => return None,
@@ -348,36 +345,34 @@ impl State {
         Some(state)
     }
 
-    pub fn to_bytes(&self) -> [u8; STATE_BYTES] {
-        let mut bytes = [0; STATE_BYTES];
-        set_words(&mut bytes, 0, &self.sleep.words());
-        set_words(&mut bytes, 4, &[self.n, self.clock]);
-        for (to, entry) in bytes[24..].chunks_exact_mut(36).zip(&self.entries) {
-            set_words(to, 0, &entry.record.words());
+    pub fn to_words(&self) -> [u32; STATE_WORDS] {
+        let mut words = [0; STATE_WORDS];
+        words[..4].copy_from_slice(&self.sleep.to_words());
+        words[4] = self.n;
+        words[5] = self.clock;
+        for (to, entry) in words[6..].chunks_exact_mut(9).zip(&self.entries) {
+            to[..4].copy_from_slice(&entry.record.to_words());
             if let Job::Working { release, left } = entry.job {
-                set_words(to, 4, &[1, release, left]);
+                to[4..7].copy_from_slice(&[1, release, left]);
             }
             if let Last::At(last) = entry.last {
-                set_words(to, 7, &[1, last]);
+                to[7..].copy_from_slice(&[1, last]);
             }
         }
-        bytes
+        words
     }
 }
 
 impl Tally {
-    pub fn from_bytes(bytes: &[u8]) -> Option<Tally> {
-        if bytes.len() != TALLY_BYTES {
-            return None;
+    pub fn from_words(words: &[u32]) -> Option<Tally> {
+        match *words {
+            [run, slot, tail] => Some(Tally { run, slot, tail }),
+            _ => None,
         }
-        let [run, slot, tail] = [0, 1, 2].map(|at| word(bytes, at));
-        Some(Tally { run, slot, tail })
     }
 
-    pub fn to_bytes(&self) -> [u8; TALLY_BYTES] {
-        let mut bytes = [0; TALLY_BYTES];
-        set_words(&mut bytes, 0, &[self.run, self.slot, self.tail]);
-        bytes
+    pub fn to_words(self) -> [u32; TALLY_WORDS] {
+        [self.run, self.slot, self.tail]
     }
 }
 
@@ -390,44 +385,43 @@ impl Refusal {
 }
 
 /// The table's refusals stand before the 6 of a verdict of another length, 5 among them.
-pub fn admit_bytes(table: &[u8], verdict: &mut [u8]) -> u64 {
+pub fn admit_words(table: &[u8], verdict: &mut [u32]) -> u64 {
     let made = admit(table);
-    let fits = verdict.len() == VERDICT_BYTES;
+    let fits = verdict.len() == VERDICT_WORDS;
     let (tested, answer) = match made.answer {
         Ok(n) if fits => (true, u64::from(n) << 8),
         Ok(_) => (true, 6),
         Err(refusal) => (refusal.number == 5, refusal.answer()),
     };
     if tested && fits {
-        set_words(verdict, 0, &made.windows);
-        set_words(verdict, 16, &made.figures);
-        set_words(verdict, 32, &made.rounds);
+        let columns = [made.windows, made.figures, made.rounds];
+        verdict.copy_from_slice(columns.as_flattened());
     }
     answer
 }
 
-pub fn start_bytes(table: &[u8], state: &mut [u8]) -> u64 {
+pub fn start_words(table: &[u8], state: &mut [u32]) -> u64 {
     match start(table) {
         Err(refusal) => return refusal.answer(),
-        Ok(_) if state.len() != STATE_BYTES => return 6,
-        Ok(fresh) => state.copy_from_slice(&fresh.to_bytes()),
+        Ok(_) if state.len() != STATE_WORDS => return 6,
+        Ok(fresh) => state.copy_from_slice(&fresh.to_words()),
     }
     0
 }
 
-pub fn release_bytes(state: &mut [u8], task: u32, demand: u32) -> u64 {
-    let Some(mut after) = State::from_bytes(state) else {
+pub fn release_words(state: &mut [u32], task: u32, demand: u32) -> u64 {
+    let Some(mut after) = State::from_words(state) else {
         return 6;
     };
     match after.release(task, demand) {
         Err(number) => return u64::from(number),
-        Ok(()) => state.copy_from_slice(&after.to_bytes()),
+        Ok(()) => state.copy_from_slice(&after.to_words()),
     }
     0
 }
 
-pub fn step_bytes(state: &mut [u8], tally: &mut [u8]) -> u64 {
-    let (Some(mut after), Some(mut counts)) = (State::from_bytes(state), Tally::from_bytes(tally))
+pub fn step_words(state: &mut [u32], tally: &mut [u32]) -> u64 {
+    let (Some(mut after), Some(mut counts)) = (State::from_words(state), Tally::from_words(tally))
     else {
         return 6;
     };
@@ -437,13 +431,13 @@ pub fn step_bytes(state: &mut [u8], tally: &mut [u8]) -> u64 {
         Ok(Tick::Slot) => 1 << 8,
         Ok(Tick::Tail) => 2 << 8,
     };
-    state.copy_from_slice(&after.to_bytes());
-    tally.copy_from_slice(&counts.to_bytes());
+    state.copy_from_slice(&after.to_words());
+    tally.copy_from_slice(&counts.to_words());
     answer
 }
 
-pub fn energy_bytes(tally: &[u8], run_power: u32, sleep_power: u32) -> u64 {
-    match Tally::from_bytes(tally).map(|counts| energy(&counts, run_power, sleep_power)) {
+pub fn energy_words(tally: &[u32], run_power: u32, sleep_power: u32) -> u64 {
+    match Tally::from_words(tally).map(|counts| energy(&counts, run_power, sleep_power)) {
         None => 6,
         Some(Err(number)) => u64::from(number),
         Some(Ok(nanojoules)) => nanojoules << 8,
@@ -451,7 +445,7 @@ pub fn energy_bytes(tally: &[u8], run_power: u32, sleep_power: u32) -> u64 {
 }
 
 /// A table of works and periods, the sleep record first; each label is its record's number.
-fn table(records: &[(u32, u32)]) -> Vec<u8> {
+pub fn table(records: &[(u32, u32)]) -> Vec<u8> {
     let numbered = (0u32..).zip(records);
     let words = numbered.flat_map(|(i, &(work, period))| [i, work, period, 0]);
     words.flat_map(u32::to_le_bytes).collect()

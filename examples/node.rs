@@ -1,23 +1,25 @@
 //! node.rs: the loop of a node on the house table, over libnode.a. Built and run by examples/run.
 //! node.c is the same in C, and both print expected.txt.
 
-use node::{Answer, Tick, PLACES, RECORD_BYTES, STATE_BYTES, TALLY_BYTES, VERDICT_BYTES};
+use node::{Answer, Tick, CLOCK, PLACES, RECORD_BYTES, STATE_WORDS, TALLY_WORDS, VERDICT_WORDS};
 use std::process::exit;
 
 /// The calls of include/node.h. Arrays fix the buffers' lengths.
 mod node {
     pub const PLACES: usize = 16;
     pub const RECORD_BYTES: usize = 16;
-    pub const STATE_BYTES: usize = 600;
-    pub const TALLY_BYTES: usize = 12;
-    pub const VERDICT_BYTES: usize = 192;
+    pub const STATE_WORDS: usize = 150;
+    pub const TALLY_WORDS: usize = 3;
+    pub const VERDICT_WORDS: usize = 48;
+    /// The word of a state that holds its clock.
+    pub const CLOCK: usize = 5;
 
     extern "C" {
-        fn node_admit(table: *const u8, bytes: usize, verdict: *mut u8, to: usize) -> u64;
-        fn node_start(table: *const u8, bytes: usize, state: *mut u8, to: usize) -> u64;
-        fn node_release(state: *mut u8, bytes: usize, task: u32, demand: u32) -> u64;
-        fn node_step(state: *mut u8, bytes: usize, tally: *mut u8, to: usize) -> u64;
-        fn node_energy(tally: *const u8, bytes: usize, run_power: u32, sleep_power: u32) -> u64;
+        fn node_admit(table: *const u8, bytes: usize, verdict: *mut u32, words: usize) -> u64;
+        fn node_start(table: *const u8, bytes: usize, state: *mut u32, words: usize) -> u64;
+        fn node_release(state: *mut u32, words: usize, task: u32, demand: u32) -> u64;
+        fn node_step(state: *mut u32, words: usize, tally: *mut u32, tally_words: usize) -> u64;
+        fn node_energy(tally: *const u32, words: usize, run_power: u32, sleep_power: u32) -> u64;
     }
 
     #[derive(Clone, Copy)]
@@ -58,27 +60,27 @@ mod node {
     // SAFETY, of each call: a pointer goes with the length of what it was taken from, and what is
     // borrowed by &mut overlaps nothing.
 
-    pub fn admit(table: &[u8], verdict: &mut [u8; VERDICT_BYTES]) -> Answer {
+    pub fn admit(table: &[u8], verdict: &mut [u32; VERDICT_WORDS]) -> Answer {
         let to = verdict.as_mut_ptr();
-        Answer(unsafe { node_admit(table.as_ptr(), table.len(), to, VERDICT_BYTES) })
+        Answer(unsafe { node_admit(table.as_ptr(), table.len(), to, VERDICT_WORDS) })
     }
 
-    pub fn start(table: &[u8], state: &mut [u8; STATE_BYTES]) -> Answer {
+    pub fn start(table: &[u8], state: &mut [u32; STATE_WORDS]) -> Answer {
         let to = state.as_mut_ptr();
-        Answer(unsafe { node_start(table.as_ptr(), table.len(), to, STATE_BYTES) })
+        Answer(unsafe { node_start(table.as_ptr(), table.len(), to, STATE_WORDS) })
     }
 
-    pub fn release(state: &mut [u8; STATE_BYTES], task: u32, demand: u32) -> Answer {
-        Answer(unsafe { node_release(state.as_mut_ptr(), STATE_BYTES, task, demand) })
+    pub fn release(state: &mut [u32; STATE_WORDS], task: u32, demand: u32) -> Answer {
+        Answer(unsafe { node_release(state.as_mut_ptr(), STATE_WORDS, task, demand) })
     }
 
-    pub fn step(state: &mut [u8; STATE_BYTES], tally: &mut [u8; TALLY_BYTES]) -> Answer {
+    pub fn step(state: &mut [u32; STATE_WORDS], tally: &mut [u32; TALLY_WORDS]) -> Answer {
         let to = tally.as_mut_ptr();
-        Answer(unsafe { node_step(state.as_mut_ptr(), STATE_BYTES, to, TALLY_BYTES) })
+        Answer(unsafe { node_step(state.as_mut_ptr(), STATE_WORDS, to, TALLY_WORDS) })
     }
 
-    pub fn energy(tally: &[u8; TALLY_BYTES], run_power: u32, sleep_power: u32) -> Answer {
-        Answer(unsafe { node_energy(tally.as_ptr(), TALLY_BYTES, run_power, sleep_power) })
+    pub fn energy(tally: &[u32; TALLY_WORDS], run_power: u32, sleep_power: u32) -> Answer {
+        Answer(unsafe { node_energy(tally.as_ptr(), TALLY_WORDS, run_power, sleep_power) })
     }
 }
 
@@ -88,8 +90,6 @@ const STOP_AFTER: u32 = 25;
 const RUN_POWER: u32 = 23_000;
 const SLEEP_POWER: u32 = 16;
 
-/// The clock's word in a state.
-const STATE_CLOCK: usize = 5;
 /// The refusal that is shown at the end.
 const TOO_SOON: u32 = 12;
 
@@ -123,13 +123,8 @@ const FIRST_RELEASE: [u32; TASKS] = [20, 1, 1, 1];
 /// noinit or backup RAM section.
 #[derive(Clone)]
 struct Memory {
-    state: [u8; STATE_BYTES],
-    tally: [u8; TALLY_BYTES],
-}
-
-fn word(bytes: &[u8], index: usize) -> u32 {
-    let at = 4 * index;
-    u32::from_le_bytes([bytes[at], bytes[at + 1], bytes[at + 2], bytes[at + 3]])
+    state: [u32; STATE_WORDS],
+    tally: [u32; TALLY_WORDS],
 }
 
 /// Gives an accepted answer back. Firmware would log the number and go to a safe state.
@@ -154,10 +149,10 @@ fn talk() {}
 /// Start is allowed on a set that is not admitted, so the test comes first.
 fn start() -> Memory {
     let mut table = [0; (1 + TASKS) * RECORD_BYTES];
-    let mut verdict = [0; VERDICT_BYTES];
+    let mut verdict = [0; VERDICT_WORDS];
     let mut memory = Memory {
-        state: [0; STATE_BYTES],
-        tally: [0; TALLY_BYTES],
+        state: [0; STATE_WORDS],
+        tally: [0; TALLY_WORDS],
     };
 
     for (to, from) in table.chunks_exact_mut(RECORD_BYTES).zip(&HOUSE) {
@@ -168,8 +163,7 @@ fn start() -> Memory {
     let tasks = check(node::admit(&table, &mut verdict)).place();
     println!("task window figure rounds");
     for i in 0..tasks as usize {
-        let (window, figure) = (word(&verdict, i), word(&verdict, PLACES + i));
-        let rounds = word(&verdict, 2 * PLACES + i);
+        let [window, figure, rounds] = [i, PLACES + i, 2 * PLACES + i].map(|at| verdict[at]);
         println!("{} {window} {figure} {rounds}", i + 1);
     }
     println!("admitted {tasks}");
@@ -219,20 +213,20 @@ fn main() {
     let mut memory = start();
 
     // The clock is read from the state, so that after a stop the loop goes on where it was.
-    let mut clock = word(&memory.state, STATE_CLOCK);
+    let mut clock = memory.state[CLOCK];
     while clock < TICKS {
         picture.push(tick(&mut memory, clock));
         if clock == STOP_AFTER {
             stop(&mut memory);
         }
-        clock = word(&memory.state, STATE_CLOCK);
+        clock = memory.state[CLOCK];
     }
     println!(
         "ticks 0 to {}, z slot, . tail, a digit the task that ran:",
         TICKS - 1
     );
     println!("{picture}");
-    let [run, slot, tail] = [0, 1, 2].map(|kind| word(&memory.tally, kind));
+    let [run, slot, tail] = memory.tally;
     println!("run {run}, slot {slot}, tail {tail}");
     let energy = check(node::energy(&memory.tally, RUN_POWER, SLEEP_POWER)).nanojoules();
     println!("{energy} nanojoules at {RUN_POWER} and {SLEEP_POWER} microwatts");
@@ -247,7 +241,7 @@ fn main() {
     println!("task 2 released again at tick {clock}: refused {refusal}{words}");
     let unchanged = before == memory.state;
     println!(
-        "the state's bytes: {}",
+        "the state's words: {}",
         if unchanged { "unchanged" } else { "changed" }
     );
 }

@@ -1,6 +1,6 @@
--- What a verdict says. The walk fills one row after another, each with its task's least window, until a task has none:
--- so the rows of the tasks before it are right, those behind it zero, and where the walk comes to its end every task
--- has a window.
+-- This file proves what a verdict says. The walk fills one row after another, each with its task's least window, until
+-- a task has none: so the rows of the tasks before it are right, those after it zero, and where the walk comes to its
+-- end every task has a window.
 use Prim.Native.Nat.{ℕ, zero, suc, _+_, _-_, _≤_, _<_}
 use mathlib.Core.Path.{_≡_, refl, ap}
 use mathlib.Core.Logic.{_↔_}
@@ -8,9 +8,11 @@ use mathlib.Core.List.{List}
 use native.Mathlib.Omega.{arith}
 use lib.ListN.{length, getD, set, length-set, getD-replicate, List·getD-eq-default}
 use lib.Seq.{getD-set-same, getD-set-other}
-use Rattle.theory.specs.Split.{by-lt, by-eq}
-use Rattle.theory.specs.System.{Rules, Sound}
-use Rattle.theory.specs.Rounds.{Outcome, found, none, outcome, Passed, Says, outcome-says, found-window, passed-none}
+use Rattle.base.proofs.Split.{by-lt, by-eq}
+use Rattle.theory.specs.Rules.{Rules}
+use Rattle.theory.specs.Rounds.{Outcome, found, none, outcome, Overrun, Says}
+use Rattle.theory.proofs.System.{Sound}
+use Rattle.theory.proofs.RoundsLaws.{outcome-says, found-window, overrun-none}
 use Rattle.table.specs.declared.Refusal.the-variants.{NoWindow}
 use Rattle.table.specs.declared.Reading.the-variants as read
 use Rattle.table.specs.Bytes.{recordAt, recordsIn}
@@ -22,7 +24,7 @@ use Rattle.admission.specs.Figure.{limit, figure}
 use Rattle.admission.specs.Says.{Row, Rows, Judged, admitted, refused, Has-window}
 use Rattle.admission.specs.Verdicts.{judged, walkFrom, zeros, admitOf}
 
--- the rows of an answer at the walk's start
+-- At the walk's start all rows are zero.
 rows-none : (R : Rules) → Rows R 0 zeros zeros zeros
 rows-none R = record { row = λ j l. absurd (let z : ⊥ = omega arith in z); rest = λ j l. (zero-at j, zero-at j, zero-at j) }
   where
@@ -30,11 +32,11 @@ rows-none R = record { row = λ j l. absurd (let z : ⊥ = omega arith in z); re
     zero-at j = by-lt j places (getD zeros j 0 ≡ 0) (λ l. getD-replicate places j 0 0 l)
         (λ l. List·getD-eq-default zeros 0 {n = j} l)
 
--- one list, one place further
+-- A number noted at a place of a list is read back there.
 noted-same : (xs : List ℕ) (i x : ℕ) → i < length xs → getD (set xs i x) i 0 ≡ x
 noted-same xs i x l = getD-set-same xs i x 0 l
 
--- one row more
+-- A right row noted at place i makes the rows of the first i + 1 tasks right.
 rows-next : (R : Rules) (i : ℕ) (windows figures rounds : List ℕ) (w f k : ℕ) → i < length windows → i < length figures → i < length rounds
     → Rows R i windows figures rounds → Row R i w f k → Rows R (i + 1) (set windows i w) (set figures i f) (set rounds i k)
 rows-next R i windows figures rounds w f k lw lf lr A r = record {
@@ -46,7 +48,7 @@ rows-next R i windows figures rounds w f k lw lf lr A r = record {
       rw (getD-set-other windows i j w 0 n, getD-set-other figures i j f 0 n, getD-set-other rounds i j k 0 n) (A .rest j (omega arith));
 }
 
--- the walk from task i on
+-- The walk from task i on gives a right verdict where the rows of the first i tasks are right.
 walk-says : (R : Rules) (left i : ℕ) (windows figures rounds : List ℕ) → Sound R → i + left ≤ length windows → i + left ≤ length figures
     → i + left ≤ length rounds → Rows R i windows figures rounds → Judged R (i + left) (walkFrom R left i windows figures rounds)
 unfolding walkFrom
@@ -66,7 +68,7 @@ walk-says R (suc left) i windows figures rounds ok lw lf lr A =
     by-outcome (found w k) F go = go w k (record { window = found-window R i (limit R i) w k ok F; figure-is = refl; rounds = F })
     by-outcome (none k) P go = refused i k (omega arith) refl P A
 
--- WHAT A VERDICT SAYS OF A SOUND TABLE
+-- WHAT A VERDICT SAYS OF A SOUND TABLE: every task has a window, or the refused one is the first that has none.
 pub admit-says : (bytes : List ℕ) (n : ℕ) → readOf bytes ≡ read.Sound n → Judged (rulesOf bytes) n (admitOf bytes)
 admit-says bytes n e =
     let S = read-set bytes n e in
@@ -74,7 +76,7 @@ admit-says bytes n e =
     let same : 0 + n ≡ n = omega arith in
     rw e (rw same at (walk-says (rulesOf bytes) n 0 zeros zeros zeros (set-sound (recordAt bytes) (recordsIn bytes - 1) (S .set)) few few few (rows-none (rulesOf bytes))))
 
--- A SOUND TABLE IS ADMITTED EXACTLY WHEN EVERY TASK HAS A WINDOW
+-- A SOUND TABLE IS ADMITTED EXACTLY WHEN EVERY TASK HAS A WINDOW.
 pub admitted-exactly : (bytes : List ℕ) (n : ℕ) → readOf bytes ≡ read.Sound n
     → (admitOf bytes .answer ≡ Admitted n) ↔ ((i : ℕ) → i < n → Has-window (rulesOf bytes) i)
 admitted-exactly bytes n e = (to (admit-says bytes n e), from (admit-says bytes n e))
@@ -91,11 +93,11 @@ admitted-exactly bytes n e = (to (admit-says bytes n e), from (admit-says bytes 
     from (refused f k l a P A) h =
         let W = h f l in
         let S = read-set bytes n e in
-        absurd (passed-none R f (limit R f) k (set-sound (recordAt bytes) (recordsIn bytes - 1) (S .set)) P (W .0) (W .2) (W .3))
+        absurd (overrun-none R f (limit R f) k (set-sound (recordAt bytes) (recordsIn bytes - 1) (S .set)) P (W .0) (W .2) (W .3))
 
--- A TASK IS REFUSED EXACTLY WHEN IT IS THE FIRST WITHOUT A WINDOW
+-- A TASK IS REFUSED EXACTLY WHEN IT IS THE FIRST WITHOUT A WINDOW.
 pub refused-exactly : (bytes : List ℕ) (n f : ℕ) → readOf bytes ≡ read.Sound n
-    → ((k : ℕ) × (admitOf bytes .answer ≡ Refused (NoWindow (f + 1) k)))
+    → ((rounds : ℕ) × (admitOf bytes .answer ≡ Refused (NoWindow (f + 1) rounds)))
     ↔ ((f < n) × (Has-window (rulesOf bytes) f → ⊥) × ((i : ℕ) → i < f → Has-window (rulesOf bytes) i))
 refused-exactly bytes n f e = (to (admit-says bytes n e), from (admit-says bytes n e))
   where
@@ -108,10 +110,10 @@ refused-exactly bytes n f e = (to (admit-says bytes n e), from (admit-says bytes
     row-window : (i m : ℕ) → i < m → Rows R m (admitOf bytes .windows) (admitOf bytes .figures) (admitOf bytes .rounds) → Has-window R i
     row-window i m l A = let W = A .row i l .window in (getD (admitOf bytes .windows) i 0, W .some, W .within, W .fits)
 
-    no-window : (g k : ℕ) → Passed R g (limit R g) k → Has-window R g → ⊥
-    no-window g k P W = passed-none R g (limit R g) k ok P (W .0) (W .2) (W .3)
+    no-window : (g k : ℕ) → Overrun R g (limit R g) k → Has-window R g → ⊥
+    no-window g k P W = overrun-none R g (limit R g) k ok P (W .0) (W .2) (W .3)
 
-    to : Judged R n (admitOf bytes) → ((k : ℕ) × (admitOf bytes .answer ≡ Refused (NoWindow (f + 1) k)))
+    to : Judged R n (admitOf bytes) → ((rounds : ℕ) × (admitOf bytes .answer ≡ Refused (NoWindow (f + 1) rounds)))
         → (f < n) × (Has-window R f → ⊥) × ((i : ℕ) → i < f → Has-window R i)
     to (admitted a A) (k, h) = let z : _≡_ {A = ℕ} 0 1 = cc in absurd (let y : ⊥ = omega arith in y)
     to (refused g k l a P A) (m, h) =
@@ -120,7 +122,7 @@ refused-exactly bytes n f e = (to (admit-says bytes n e), from (admit-says bytes
         (rw (← q) l, rw (← q) (no-window g k P), λ i li. row-window i g (omega arith) A)
 
     from : Judged R n (admitOf bytes) → ((f < n) × (Has-window R f → ⊥) × ((i : ℕ) → i < f → Has-window R i))
-        → (k : ℕ) × (admitOf bytes .answer ≡ Refused (NoWindow (f + 1) k))
+        → (rounds : ℕ) × (admitOf bytes .answer ≡ Refused (NoWindow (f + 1) rounds))
     from (admitted a A) (lf, none-f, below) = absurd (none-f (row-window f n lf A))
     from (refused g k l a P A) (lf, none-f, below) =
         by-lt f g ((m : ℕ) × (admitOf bytes .answer ≡ Refused (NoWindow (f + 1) m)))

@@ -1,6 +1,6 @@
--- the numbers of the test are small
+-- `DemandLaws` proves that the numbers of the test are small.
 pub mod DemandLaws
--- the walk, a task at a time
+-- `WalkLaws` takes the walk a task at a time.
 pub mod WalkLaws
--- what a verdict says
+-- `AdmitLaws` proves what a verdict says.
 pub mod AdmitLaws

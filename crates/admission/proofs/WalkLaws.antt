@@ -1,20 +1,14 @@
--- The walk of the admission test, a task at a time.
+-- This file takes the walk of the admission test a task at a time.
 use Prim.Native.Nat.{ℕ, zero, suc, _+_, _-_, _≤_}
 use mathlib.Core.Path.{_≡_}
 use mathlib.Core.List.{List}
 use native.Mathlib.Omega.{arith}
-use Rattle.theory.specs.System.{Rules}
+use Rattle.theory.specs.Rules.{Rules}
 use Rattle.theory.specs.Rounds.{outcome}
-use Rattle.admission.specs.Figure.{waiting, limit}
+use Rattle.admission.specs.Figure.{limit}
 use Rattle.admission.specs.Verdicts.{judged, walkFrom}
 
--- no wait is longer than H - 1
-pub waiting-most : (i h : ℕ) → waiting i h ≤ h - 1
-unfolding waiting
-waiting-most zero h = omega arith
-waiting-most (suc i) h = omega arith
-
--- one task of the walk
+-- One task of the walk is judged, and the walk goes on with one task fewer.
 pub walk-step : (R : Rules) (left i : ℕ) (windows figures rounds : List ℕ) → 1 ≤ left
     → walkFrom R left i windows figures rounds ≡ judged (walkFrom R (left - 1) (i + 1)) R i windows figures rounds (outcome R i (limit R i))
 unfolding walkFrom

@@ -1,6 +1,6 @@
--- how long a job may wait, the limit of a task's window, and its response figure
+-- `Figure` defines the limit of a task's window, and its response figure.
 pub mod Figure
--- the walk over the tasks of a table, and the verdict
+-- `Verdicts` defines the walk over the tasks of a table, and the verdict.
 pub mod Verdicts
--- what a verdict says, as facts
+-- `Says` gives, as facts, what a verdict says.
 pub mod Says

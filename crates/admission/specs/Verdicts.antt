@@ -1,9 +1,9 @@
--- Document 01's admission test: the walk over tasks and rounds, stopped at the first task without a window.
+-- Document 01's admission test is a walk over tasks and rounds, which stops at the first task without a window.
 use Prim.Native.Nat.{ℕ, zero, suc, _+_, _≤_}
 use mathlib.Core.Path.{_≡_}
 use mathlib.Core.List.{List}
 use lib.ListN.{set, replicate}
-use Rattle.theory.specs.System.{Rules}
+use Rattle.theory.specs.Rules.{Rules}
 use Rattle.theory.specs.Rounds.{Outcome, found, none, outcome}
 use Rattle.table.specs.declared.Refusal.the-variants.{NoWindow}
 use Rattle.table.specs.declared.Reading.{Reading}
@@ -15,35 +15,35 @@ use Rattle.admission.specs.declared.Answer.the-variants.{Admitted, Refus
 use Rattle.admission.specs.declared.Verdict.{Verdict}
 use Rattle.admission.specs.Figure.{limit, figure}
 
--- an answer with windows, figures and rounds by task
+-- A verdict is an answer with windows, figures and rounds by task.
 abbrev pub verdict : Answer → List ℕ → List ℕ → List ℕ → Verdict
 verdict answer windows figures rounds = record { answer = answer; windows = windows; figures = figures; rounds = rounds }
 
--- a task's outcome: its window, figure and rounds are noted and the walk goes on, or refusal 5 ends it
+-- A task's outcome decides the walk: it goes on with window, figure and rounds noted, or refusal 5 ends it.
 abbrev pub judged : (List ℕ → List ℕ → List ℕ → Verdict) → Rules → ℕ → List ℕ → List ℕ → List ℕ → Outcome → Verdict
 judged go R i windows figures rounds (found w k) = go (set windows i w) (set figures i (figure R i w)) (set rounds i k)
 judged go R i windows figures rounds (none k) = verdict (Refused (NoWindow (i + 1) k)) windows figures rounds
 
--- the walk from task i on, with so many tasks left
+-- `walkFrom` is the walk from task i on, with so many tasks left.
 unfoldable pub walkFrom : Rules → ℕ → ℕ → List ℕ → List ℕ → List ℕ → Verdict
 walkFrom R zero i windows figures rounds = verdict (Admitted i) windows figures rounds
 walkFrom R (suc left) i windows figures rounds =
     judged (walkFrom R left (i + 1)) R i windows figures rounds (outcome R i (limit R i))
 
--- places that nothing fills are zero
+-- Places that nothing fills are zero.
 abbrev pub zeros : List ℕ
 zeros = replicate places 0
 
--- what the reading of a table makes of the verdict
+-- `verdictOf` is what the reading of a table makes of the verdict.
 abbrev pub verdictOf : List ℕ → Reading → Verdict
 verdictOf bytes (read.Sound n) = walkFrom (rulesOf bytes) n 0 zeros zeros zeros
 verdictOf bytes (read.Refused refusal) = verdict (Refused refusal) zeros zeros zeros
 
--- THE VERDICT on any bytes
+-- THE VERDICT is defined on any bytes.
 abbrev pub admitOf : List ℕ → Verdict
 admitOf bytes = verdictOf bytes (readOf bytes)
 
--- the bytes are a sound table that has i tasks or more: what the functions under the test ask
+-- The bytes are a sound table that has i tasks or more: this is what the functions under the test ask.
 pub record Tasks (bytes : List ℕ) (i : ℕ) : Type 0 where
   pub all : ℕ
   pub reads : readOf bytes ≡ read.Sound all

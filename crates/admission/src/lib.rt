@@ -1,14 +1,15 @@
-// The admission test: for any bytes, a verdict that a dealer can believe. specs/Verdicts.antt says
-// what it is, specs/Figure.antt what limit and figure are.
+// The admission test gives, for any bytes, a verdict that a dealer can believe. specs/Verdicts.antt
+// says what it is, specs/Figure.antt what limit and figure are.
 ghost use mathlib.Core.Path.{_≡_};
-ghost use Prim.Native.Nat.{ℕ, _+_, _*_, _≤_, _<_};
+ghost use Prim.Native.Nat.{_+_, _*_, _≤_, _<_};
+ghost use Rattle.base.specs.Sum.{sumTo};
 ghost use Rattle.theory.specs.Round.{ceil as theory·ceil};
-ghost use Rattle.theory.specs.Sum.{sumTo};
-ghost use Rattle.theory.specs.System.{demand as theory·demand};
+ghost use Rattle.theory.specs.Rules.{demand as theory·demand};
 ghost use Rattle.table.specs.Sound.{readOf};
 ghost use Rattle.table.specs.Set.{rulesOf};
 ghost use Rattle.table.specs.declared.Reading.the-variants.{Sound};
-ghost use Rattle.admission.specs.Figure.{waiting};
+ghost use Rattle.table.specs.Times.{waiting};
+ghost use Rattle.admission.specs.Figure.{limit as admission·limit, figure as admission·figure};
 ghost use Rattle.admission.specs.Verdicts.{Tasks, walkFrom, admitOf, zeros};
 use table::PLACES;
 use table::Reading;
@@ -21,8 +22,8 @@ pub enum Answer {
     Refused(Refusal),
 }
 
-// The answer and, by task from place 0 on, window, response figure and rounds. Under refusal 5 the
-// tasks before the failing one have theirs; places that nothing fills are zero.
+// A verdict is the answer and, by task from place 0 on, window, response figure and rounds. Under
+// refusal 5 the tasks before the failing one have theirs; places that nothing fills are zero.
 pub struct Verdict {
     pub answer: Answer,
     pub windows: [u32; PLACES],
@@ -30,7 +31,7 @@ pub struct Verdict {
     pub rounds: [u32; PLACES],
 }
 
-// The verdict on any bytes: refusals 1 to 5, or admitted with the number of tasks.
+// The verdict on any bytes is one of refusals 1 to 5, or admitted with the number of tasks.
 pub fn admit(table: &[u8]) -> Verdict
     ensures { λ r. ⌜ r ≡ admitOf (now (table .entry)) ⌝ }
 {
@@ -46,7 +47,7 @@ pub fn admit(table: &[u8]) -> Verdict
     }
 }
 
-// The walk over tasks and rounds, which stops at the first task without a window.
+// The walk goes over tasks and rounds, and stops at the first task without a window.
 fn walk(table: &[u8], n: u32) -> Verdict
     requires { ⌜ readOf (now table) ≡ Sound n ⌝ }
     ensures { λ r. ⌜ r ≡ walkFrom (rulesOf (now (table .entry))) n 0 zeros zeros zeros ⌝ }
@@ -60,12 +61,11 @@ fn walk(table: &[u8], n: u32) -> Verdict
     'tasks: while i < n {
         let at = i as usize;
         let task = record_at(table, at + 1);
-        let waiting = wait(i, sleep.period);
-        let limit = task.period - waiting;
+        let most = limit(table, i);
         let mut w = task.work + sleep.work;
         let mut k: u32 = 0;
         'rounds: loop {
-            if limit < w {
+            if most < w {
                 answer = Answer::Refused(Refusal::NoWindow {
                     task: i + 1,
                     rounds: k,
@@ -80,7 +80,7 @@ fn walk(table: &[u8], n: u32) -> Verdict
             w = d;
         }
         windows[at] = w;
-        figures[at] = w + waiting;
+        figures[at] = figure(table, i, w);
         rounds[at] = k;
         i += 1;
     }
@@ -92,7 +92,26 @@ fn walk(table: &[u8], n: u32) -> Verdict
     }
 }
 
-// The demand of a window of w ticks at task i, from 0.
+// The limit of task i's window, from 0, is the ticks that a job has, without those that it may wait.
+fn limit(table: &[u8], i: u32) -> u32
+    requires { ⌜ Tasks (now table) (i + 1) ⌝ }
+    ensures { λ r. ⌜ r ≡ admission·limit (rulesOf (now (table .entry))) i ⌝ }
+{
+    let sleep = record_at(table, 0);
+    let task = record_at(table, i as usize + 1);
+    task.period - wait(i, sleep.period)
+}
+
+// The response figure of task i, from 0, with a window of w ticks is the window after the wait.
+fn figure(table: &[u8], i: u32, w: u32) -> u32
+    requires { ⌜ Tasks (now table) (i + 1) × (w ≤ 60000) ⌝ }
+    ensures { λ r. ⌜ r ≡ admission·figure (rulesOf (now (table .entry))) i w ⌝ }
+{
+    let sleep = record_at(table, 0);
+    w + wait(i, sleep.period)
+}
+
+// `demand` is the demand of a window of w ticks at task i, from 0.
 fn demand(table: &[u8], i: u32, w: u32) -> u32
     requires { ⌜ Tasks (now table) (i + 1) × (w ≤ 60000) ⌝ }
     ensures { λ r. ⌜ r ≡ theory·demand (rulesOf (now (table .entry))) i w ⌝ }
@@ -106,7 +125,7 @@ fn demand(table: &[u8], i: u32, w: u32) -> u32
     task.work + k * sleep.work + above
 }
 
-// The work of the jobs of tasks 0 to i - 1 that come in a span of ticks.
+// `jobs_above` is the work of the jobs of tasks 0 to i - 1 that come in a span of ticks.
 fn jobs_above(table: &[u8], i: u32, span: u32) -> u32
     requires { ⌜ Tasks (now table) i × (span ≤ 120000) ⌝ }
     ensures { λ r. ⌜ r ≡ sumTo i (λ j. rulesOf (now (table .entry)) .C j * theory·ceil span (rulesOf (now (table .entry)) .T j)) ⌝ }
@@ -121,7 +140,7 @@ fn jobs_above(table: &[u8], i: u32, span: u32) -> u32
     sum
 }
 
-// How long a job of task i, from 0, may wait for its boundary.
+// `wait` is how long a job of task i, from 0, may wait for its boundary.
 fn wait(i: u32, h: u32) -> u32
     requires { ⌜ 1 ≤ h ⌝ }
     ensures { λ r. ⌜ r ≡ waiting i h ⌝ }
@@ -129,7 +148,7 @@ fn wait(i: u32, h: u32) -> u32
     if i == 0 { 0 } else { h - 1 }
 }
 
-// a / b, rounded up.
+// `ceil` is a / b, rounded up.
 fn ceil(a: u32, b: u32) -> u32
     requires { ⌜ (1 ≤ b) × (a + b ≤ 1000000000) ⌝ }
     ensures { λ r. ⌜ r ≡ theory·ceil a b ⌝ }

@@ -1,12 +1,16 @@
--- a state as a view
+-- Views shows a state as a view.
 pub mod Views
--- accepted releases and ticks are moves
+-- Moves shows that accepted releases and ticks are moves.
 pub mod Moves
--- every history is a run
+-- Runs shows that every history is a run.
 pub mod Runs
--- the response bound, and rest behind a tail tick
+-- Ticks says, by the answer of a step, what it was in the abstract scheduler.
+pub mod Ticks
+-- Bounds carries the response bound over to histories.
 pub mod Bounds
--- the worst pattern as a run
+-- Rest shows that there is rest after a tail tick.
+pub mod Rest
+-- Worst shows the worst pattern as a run.
 pub mod Worst
--- the figures reached, and the late task
+-- Reached shows that the figures are reached, and that the task without a window is late.
 pub mod Reached

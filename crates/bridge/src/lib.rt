@@ -1,2 +1,2 @@
-// Why the theory speaks of this scheduler, in specs/: a state as a view of the abstract scheduler, its
-// calls as moves, every history as a run, and the worst pattern as one. No code.
+// The theory speaks of this scheduler, as specs/ shows without code: a state is a view of the
+// abstract scheduler, its calls are moves, every history is a run, and so is the worst pattern.

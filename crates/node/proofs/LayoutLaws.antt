@@ -1,235 +1,323 @@
--- Reading back what was written: a state of 16 places with 32-bit words is read back as it was, and bytes that encode a
--- state are written back as they were. So with a tally.
-use Prim.Native.Nat.{ℕ, zero, suc, _+_, _-_, _*_, _/_, _%_, _<_, _^_}
+-- What was written is read back: a state of 16 places is read back as it was, and words that encode a state are written
+-- back as they were. So it is with a tally. The words of a state of which one place's are put are those of the state
+-- with that entry.
+use Prim.Native.Nat.{ℕ, zero, suc, _+_, _-_, _*_, _/_, _%_, _≤_, _<_}
 use mathlib.Core.Path.{_≡_, refl, sym, _∙_, ap}
-use mathlib.Core.List.{List, [], _∷_, _++_}
-use mathlib.Core.Bool.{Bool, true, false, _&&_, _||_, and-eq-true-iff}
+use mathlib.Core.Logic.{_⊎_, inl, inr}
+use mathlib.Core.List.{List, [], _∷_, _++_, append-assoc, append-nil}
+use mathlib.Core.Bool.{Bool, true, false, _&&_, and-eq-true-iff}
 use native.Mathlib.Omega.{arith}
+use native.Mathlib.Numerals.{add-one}
+use lib.Bits.{bitOr, or-add-and, and-le-l, and-le-r}
 use lib.Dec.{eqb}
-use lib.ListN.{length, getD, length-append, List·getD-append}
-use lib.Seq.{getD-append-seam, ext-getD}
-use borrow.Author.Tests.{lt-ltb, le-ltb, eq-eqb, ne-eqb, eqb-true}
-use Rattle.theory.specs.Split.{by-eq, by-lt}
+use lib.ListN.{length, getD, set, length-append, List·getD-append}
+use lib.Seq.{getD-append-add, getD-set-same, getD-set-other, ext-getD}
+use borrow.Author.Tests.{eq-eqb, ne-eqb, eqb-true}
+use Rattle.base.proofs.Split.{by-eq, by-lt}
+use Rattle.base.specs.List.{listFrom}
 use Rattle.table.specs.declared.Record.{Record}
 use Rattle.table.specs.Sound.{places}
+use Rattle.admission.specs.declared.Verdict.{Verdict}
 use Rattle.scheduler.specs.declared.Job.{Job}
 use Rattle.scheduler.specs.declared.Job.the-variants.{Resting, Working}
 use Rattle.scheduler.specs.declared.Last.{Last}
 use Rattle.scheduler.specs.declared.Last.the-variants.{Never, At}
 use Rattle.scheduler.specs.declared.Entry.{Entry}
 use Rattle.scheduler.specs.declared.State.{State}
-use Rattle.scheduler.specs.declared.Tally.{Tally}
-use Rattle.scheduler.specs.States.{noEntry, entryIn, zeroed, restsNever, spareFits}
-use Rattle.scheduler.proofs.EveryLaws.{every-says, says-every}
-use Rattle.node.specs.Words.{bytesFrom, wordIn, Octets}
-use Rattle.node.specs.Layout.{recordWords, jobWords, lastWords, entryWords, headWords, stateWord, stateBytes, tallyWord, tallyBytes, jobFrom, lastFrom, entryFrom, listFrom, entriesFrom, stateFrom, stateIn, tallyIn, kindCodes, placeCodes, placeBlank, encodes, Held}
-use Rattle.node.proofs.WordLaws.{length-bytes, word-back, bytes-back, bytes-same}
+use Rattle.scheduler.specs.declared.Count.{Count}
+use Rattle.scheduler.specs.declared.Count.the-variants.{Runs, Slots, Tails}
+use Rattle.scheduler.specs.States.{noEntry, entryIn, withEntry, aged, zeroed, restsNever, spareFits, withEntries}
+use Rattle.scheduler.specs.Releases.{releasedEntry}
+use Rattle.scheduler.specs.Steps.{workedOf, afterRun, raised}
+use Rattle.base.proofs.EveryLaws.{every-says, says-every}
+use Rattle.node.specs.Words.{puts}
+use Rattle.node.specs.Layout.{headSize, clockAt, runAt, slotAt, tailAt, labelAt, workAt, periodAt, reservedAt, jobAt, releaseAt, leftAt, lastAt, tickAt, placeSize, stateSize, placeStart, tallySize, recordWords, jobWords, lastWords, entryWords, placesWords, headWords, stateWords, tallyWords, verdictSize, byPlace, verdictWords, wordIn, recordFrom, jobFrom, lastFrom, entryFrom, entriesIn, stateIn, tallyIn, anyWord, kindEncoded, placeEncoded, encoded}
+use Rattle.base.proofs.ListLaws.{length-list, list-at, list-same, list-back}
+use Rattle.node.proofs.WordLaws.{length-puts, puts-out, puts-in, puts-append, puts-from, puts-whole}
 
--- a list by its numbers
-pub length-list : {A : Type 0} (f : ℕ → A) (n : ℕ) → length (listFrom f n) ≡ n
-unfolding listFrom length
-length-list f zero = refl
-length-list f (suc n) =
-    let e = length-append (listFrom f n) (f n ∷ []) in
-    let p = length-list f n in
+-- Words that encode a state are as many as it has, and every place among them is encoded.
+pub encoded-length : (words : List ℕ) → encoded words ≡ true → length words ≡ stateSize
+unfolding encoded
+encoded-length words e = eqb-true (length words) stateSize (and-eq-true-iff (eqb (length words) stateSize) _ .0 e .0)
+
+encoded-place : (words : List ℕ) (i : ℕ) → encoded words ≡ true → i < places → placeEncoded words (placeStart i) ≡ true
+unfolding encoded
+encoded-place words i e l = every-says (λ i. placeEncoded words (placeStart i)) places i (and-eq-true-iff (eqb (length words) stateSize) _ .0 e .1) l
+
+-- The entry at a place is the one that is read from the place's first word on.
+pub entry-is : (words : List ℕ) (i : ℕ) → i < places → getD (entriesIn words) i noEntry ≡ entryFrom words (placeStart i)
+entry-is words i l = list-at (λ i. entryFrom words (placeStart i)) places i noEntry l
+
+-- These laws say how many words a place, some places and a state have.
+nine-words : (r : Record) (j : Job) (l : Last) → length (recordWords r ++ jobWords j ++ lastWords l) ≡ placeSize
+nine-words r Resting Never = refl
+nine-words r Resting (At a) = refl
+nine-words r (Working b m) Never = refl
+nine-words r (Working b m) (At a) = refl
+
+pub length-entry : (e : Entry) → length (entryWords e) ≡ placeSize
+length-entry e = nine-words (e .task) (e .job) (e .last)
+
+pub length-places : (es : List Entry) (n : ℕ) → length (placesWords es n) ≡ placeSize * n
+unfolding placesWords
+length-places es zero = refl
+length-places es (suc n) =
+    let a = length-append (placesWords es n) (entryWords (getD es n noEntry)) in
+    let b = length-places es n in
+    let c = length-entry (getD es n noEntry) in
     omega arith
 
-pub list-at : {A : Type 0} (f : ℕ → A) (n i : ℕ) (d : A) → i < n → getD (listFrom f n) i d ≡ f i
+pub length-state : (s : State) → length (stateWords s) ≡ stateSize
+length-state s = omega (arith, length-places (s .entries) places)
+
+-- The words of a place stand among those of all places in the order of the places.
+places-at : (es : List Entry) (n i q : ℕ) → i < n → q < placeSize → getD (placesWords es n) (placeSize * i + q) 0 ≡ getD (entryWords (getD es i noEntry)) q 0
+unfolding placesWords
+places-at es zero i q l m = absurd (let z : ⊥ = omega arith in z)
+places-at es (suc n) i q l m =
+    let P = placesWords es n in
+    let E = entryWords (getD es n noEntry) in
+    by-eq i n (getD (P ++ E) (placeSize * i + q) 0 ≡ getD (entryWords (getD es i noEntry)) q 0)
+    (λ x. let e : placeSize * i + q ≡ length P + q = omega (arith, length-places es n) in
+    ap (λ (y : ℕ). getD (P ++ E) y 0) e ∙ getD-append-add P E q 0 ∙ ap (λ (y : ℕ). getD (entryWords (getD es y noEntry)) q 0) (sym x))
+    (λ d. List·getD-append P E 0 (placeSize * i + q) (omega (arith, length-places es n)) ∙ places-at es n i q (omega arith) m)
+
+-- WORD q OF PLACE i of a state is word q of the entry at that place.
+pub place-word : (s : State) (i q : ℕ) → i < places → q < placeSize → wordIn (stateWords s) (placeStart i + q) ≡ getD (entryWords (entryIn s i)) q 0
+place-word s i q l m =
+    let e : placeStart i + q ≡ length (headWords s) + (placeSize * i + q) = omega arith in
+    ap (λ (y : ℕ). getD (stateWords s) y 0) e ∙ getD-append-add (headWords s) (placesWords (s .entries) places) (placeSize * i + q) 0 ∙ places-at (s .entries) places i q l m
+
+-- A kind that is encoded is 1, or all three words are 0.
+kind-says : (kind a l : ℕ) → kindEncoded kind a l ≡ true → (G : Type 0) → (kind ≡ 1 → G) → (kind ≡ 0 → a ≡ 0 → l ≡ 0 → G) → G
+kind-says kind a l e G one none = by-eq kind 1 G one
+    (λ n. let z : kind + a + l ≡ 0 = eqb-true (kind + a + l) 0 (rw (ne-eqb kind 1 n) at e) in none (omega arith) (omega arith) (omega arith))
+
+job-words : (kind a l : ℕ) → kindEncoded kind a l ≡ true → jobWords (jobFrom kind a l) ≡ kind ∷ a ∷ l ∷ []
+job-words kind a l e = kind-says kind a l e (jobWords (jobFrom kind a l) ≡ kind ∷ a ∷ l ∷ []) (λ one. rw one) (λ x y z. rw (x, y, z))
+
+last-words : (kind a : ℕ) → kindEncoded kind a 0 ≡ true → lastWords (lastFrom kind a) ≡ kind ∷ a ∷ []
+last-words kind a e = kind-says kind a 0 e (lastWords (lastFrom kind a) ≡ kind ∷ a ∷ []) (λ one. rw one) (λ x y z. rw (x, y))
+
+-- The words of an entry that was read are those that were there.
+entry-words : (words : List ℕ) (k : ℕ) → placeEncoded words k ≡ true → entryWords (entryFrom words k) ≡ listFrom (λ q. wordIn words (k + q)) placeSize
 unfolding listFrom
-list-at f zero i d l = absurd (let z : ⊥ = omega arith in z)
-list-at {A} f (suc n) i d l = by-eq i n (getD (listFrom f n ++ f n ∷ []) i d ≡ f i)
-    (λ q. let e : i ≡ length (listFrom f n) = omega (arith, length-list f n) in
-    ap (λ (x : ℕ). getD (listFrom f n ++ f n ∷ []) x d) e ∙ getD-append-seam (listFrom f n) (f n) [] d ∙ ap f (sym q))
-    (λ u. List·getD-append (listFrom f n) (f n ∷ []) d i (omega (arith, length-list f n)) ∙ list-at f n i d (omega arith))
+entry-words words k e =
+    let b = and-eq-true-iff (kindEncoded (wordIn words (k + jobAt)) (wordIn words (k + releaseAt)) (wordIn words (k + leftAt))) (kindEncoded (wordIn words (k + lastAt)) (wordIn words (k + tickAt)) 0) .0 e in
+    let r = recordWords (entryFrom words k .task) in
+    ap (λ (js : List ℕ). r ++ js ++ lastWords (entryFrom words k .last)) (job-words (wordIn words (k + jobAt)) (wordIn words (k + releaseAt)) (wordIn words (k + leftAt)) (b .0))
+    ∙ ap (λ (ts : List ℕ). r ++ (wordIn words (k + jobAt) ∷ wordIn words (k + releaseAt) ∷ wordIn words (k + leftAt) ∷ []) ++ ts) (last-words (wordIn words (k + lastAt)) (wordIn words (k + tickAt)) (b .1))
 
--- the entry at a place
-pub entry-is : (word : ℕ → ℕ) (i : ℕ) → i < 16 → getD (entriesFrom word) i noEntry ≡ entryFrom word (6 + 9 * i)
-entry-is word i l = list-at (λ i. entryFrom word (6 + 9 * i)) places i noEntry l
+-- ONE MORE word of a list, or place of a state, is put after those that were put before it.
+pub one-more-put : (words : List ℕ) (k : ℕ) (f : ℕ → ℕ) (i : ℕ) → puts words k 0 (listFrom f (i + 1)) ≡ set (puts words k 0 (listFrom f i)) (k + i) (f i)
+unfolding listFrom
+one-more-put words k f i =
+    let e : 0 + i ≡ i = omega arith in
+    rw add-one (puts-append words k 0 (listFrom f i) (f i ∷ []) ∙ rw (length-list f i, e))
 
--- word k of a state, before the places and in them
-pub head-word : (s : State) (k : ℕ) → k < 6 → stateWord s k ≡ getD (headWords s) k 0
-unfolding stateWord
-head-word s k l = rw (lt-ltb k 6 l)
+pub place-more-put : (words : List ℕ) (es : List Entry) (i : ℕ)
+    → puts words 0 headSize (placesWords es (i + 1)) ≡ puts (puts words 0 headSize (placesWords es i)) (placeStart i) 0 (entryWords (getD es i noEntry))
+unfolding placesWords
+place-more-put words es i =
+    let e : placeStart i + 0 ≡ headSize + length (placesWords es i) = omega (arith, length-places es i) in
+    rw add-one (puts-append words 0 headSize (placesWords es i) (entryWords (getD es i noEntry)) ∙ sym (puts-from (puts words 0 headSize (placesWords es i)) (placeStart i) 0 (entryWords (getD es i noEntry)) ∙ rw e))
 
-pub place-word : (s : State) (i q : ℕ) → q < 9 → stateWord s (6 + 9 * i + q) ≡ getD (entryWords (entryIn s i)) q 0
-unfolding stateWord
-place-word s i q l =
-    let p : (6 + 9 * i + q - 6) / 9 ≡ i = omega arith in
-    let r : (6 + 9 * i + q - 6) % 9 ≡ q = omega arith in
-    rw (le-ltb (6 + 9 * i + q) 6 (omega arith), p, r)
+-- ALL WORDS of a state, and of a verdict, are there once their parts are put.
+pub state-put : (words : List ℕ) (s : State) → length words ≡ stateSize → puts (puts words 0 0 (headWords s)) 0 headSize (placesWords (s .entries) places) ≡ stateWords s
+state-put words s long =
+    sym (puts-append words 0 0 (headWords s) (placesWords (s .entries) places)) ∙ puts-whole words (stateWords s) (length-state s ∙ sym long)
 
--- a kind that is written as it should be
-job-words : (kind a l : ℕ) → kindCodes kind a l ≡ true → jobWords (jobFrom kind a l) ≡ kind ∷ a ∷ l ∷ []
-job-words zero a l e =
-    let b = and-eq-true-iff (eqb a 0) (eqb l 0) .0 e in
-    rw (eqb-true a 0 (b .0), eqb-true l 0 (b .1))
-job-words (suc kind) a l e = let k : suc kind ≡ 1 = one (eqb (suc kind) 1) refl e in rw k
-  where
-    one : (b : Bool) → eqb (suc kind) 1 ≡ b → b || (eqb (suc kind) 0 && eqb a 0 && eqb l 0) ≡ true → suc kind ≡ 1
-    one true q t = eqb-true (suc kind) 1 q
-    one false q t = absurd (let z : suc kind ≡ 0 = eqb-true (suc kind) 0 (and-eq-true-iff (eqb (suc kind) 0) _ .0 (and-eq-true-iff (eqb (suc kind) 0 && eqb a 0) _ .0 t .0) .0) in let y : ⊥ = omega arith in y)
+pub verdict-put : (words : List ℕ) (v : Verdict) → length words ≡ verdictSize
+    → puts (puts (puts words 0 0 (byPlace (v .windows))) places 0 (byPlace (v .figures))) (places + places) 0 (byPlace (v .rounds)) ≡ verdictWords v
+unfolding listFrom
+verdict-put words v long =
+    let W = byPlace (v .windows) in
+    let F = byPlace (v .figures) in
+    let R = byPlace (v .rounds) in
+    let w : length W ≡ places = length-list (λ i. getD (v .windows) i 0) places in
+    let f : length F ≡ places = length-list (λ i. getD (v .figures) i 0) places in
+    let r : length R ≡ places = length-list (λ i. getD (v .rounds) i 0) places in
+    let first = puts words 0 0 W in
+    ap (λ (x : List ℕ). puts x (places + places) 0 R) (puts-from first places 0 F) ∙ puts-from (puts first 0 places F) (places + places) 0 R
+    ∙ sym (puts-append words 0 0 (W ++ F) R ∙ ap (λ (x : List ℕ). puts x 0 (length (W ++ F)) R) (puts-append words 0 0 W F) ∙ rw (length-append W F, w, f))
+    ∙ puts-whole words (verdictWords v) (simp length-append (omega arith))
 
-last-words : (kind a : ℕ) → kindCodes kind a 0 ≡ true → lastWords (lastFrom kind a) ≡ kind ∷ a ∷ []
-last-words zero a e =
-    let b = and-eq-true-iff (eqb a 0) true .0 e in
-    rw (eqb-true a 0 (b .0))
-last-words (suc kind) a e = let k : suc kind ≡ 1 = one (eqb (suc kind) 1) refl e in rw k
-  where
-    one : (b : Bool) → eqb (suc kind) 1 ≡ b → b || (eqb (suc kind) 0 && eqb a 0 && true) ≡ true → suc kind ≡ 1
-    one true q t = eqb-true (suc kind) 1 q
-    one false q t = absurd (let z : suc kind ≡ 0 = eqb-true (suc kind) 0 (and-eq-true-iff (eqb (suc kind) 0) _ .0 (and-eq-true-iff (eqb (suc kind) 0 && eqb a 0) _ .0 t .0) .0) in let y : ⊥ = omega arith in y)
+-- A list comes in two parts: its first m elements, and the n after them.
+list-more : {A : Type 0} (f : ℕ → A) (m n : ℕ) → listFrom f (m + n) ≡ listFrom f m ++ listFrom (λ q. f (m + q)) n
+unfolding listFrom
+list-more f m zero = let e : m + 0 ≡ m = omega arith in rw (e, append-nil)
+list-more f m (suc n) = let e : m + suc n ≡ suc (m + n) = omega arith in rw e (rw (list-more f m n, append-assoc))
 
--- the words of an entry that was read are those that were there
-entry-words : (word : ℕ → ℕ) (k q : ℕ) → placeCodes word k ≡ true → q < 9 → getD (entryWords (entryFrom word k)) q 0 ≡ word (k + q)
-entry-words word k q e l =
-    let b = and-eq-true-iff (kindCodes (word (k + 4)) (word (k + 5)) (word (k + 6))) (kindCodes (word (k + 7)) (word (k + 8)) 0) .0 e in
-    let j = job-words (word (k + 4)) (word (k + 5)) (word (k + 6)) (b .0) in
-    let t = last-words (word (k + 7)) (word (k + 8)) (b .1) in
-    ap (λ (js : List ℕ). getD (recordWords (entryFrom word k .task) ++ js ++ lastWords (entryFrom word k .last)) q 0) j
-    ∙ ap (λ (ts : List ℕ). getD (recordWords (entryFrom word k .task) ++ (word (k + 4) ∷ word (k + 5) ∷ word (k + 6) ∷ []) ++ ts) q 0) t
-    ∙ nine q l
-  where
-    nine : (q : ℕ) → q < 9 → getD (word k ∷ word (k + 1) ∷ word (k + 2) ∷ word (k + 3) ∷ word (k + 4) ∷ word (k + 5) ∷ word (k + 6) ∷ word (k + 7) ∷ word (k + 8) ∷ []) q 0 ≡ word (k + q)
-    nine zero l = let e : k ≡ k + 0 = omega arith in ap word e
-    nine (suc zero) l = refl
-    nine (suc (suc zero)) l = refl
-    nine (suc (suc (suc zero))) l = refl
-    nine (suc (suc (suc (suc zero)))) l = refl
-    nine (suc (suc (suc (suc (suc zero))))) l = refl
-    nine (suc (suc (suc (suc (suc (suc zero)))))) l = refl
-    nine (suc (suc (suc (suc (suc (suc (suc zero))))))) l = refl
-    nine (suc (suc (suc (suc (suc (suc (suc (suc zero)))))))) l = refl
-    nine (suc (suc (suc (suc (suc (suc (suc (suc (suc q))))))))) l = absurd (let z : ⊥ = omega arith in z)
+-- WORDS THAT ENCODE A STATE are written back as they were, the head first and then place by place.
+written : (words : List ℕ) (n : ℕ) → n ≤ places → encoded words ≡ true → headWords (stateIn words) ++ placesWords (entriesIn words) n ≡ listFrom (wordIn words) (placeStart n)
+unfolding placesWords listFrom
+written words zero l e = refl
+written words (suc n) l e =
+    let code = encoded-place words n e l in
+    let next : placeStart (suc n) ≡ placeStart n + placeSize = omega arith in
+    let place = ap entryWords (entry-is words n l) ∙ entry-words words (placeStart n) code in
+    sym (append-assoc (headWords (stateIn words)) (placesWords (entriesIn words) n) (entryWords (getD (entriesIn words) n noEntry)))
+    ∙ ap (λ (x : List ℕ). x ++ entryWords (getD (entriesIn words) n noEntry)) (written words n (omega arith) e)
+    ∙ ap (λ (x : List ℕ). listFrom (wordIn words) (placeStart n) ++ x) place
+    ∙ sym (ap (listFrom (wordIn words)) next ∙ list-more (wordIn words) (placeStart n) placeSize)
 
--- BYTES THAT ENCODE A STATE are written back as they were
-pub read-word : (bytes : List ℕ) (k : ℕ) → encodes bytes ≡ true → k < 150 → stateWord (stateIn bytes) k ≡ wordIn bytes k
-unfolding encodes
-read-word bytes k e l = by-lt k 6 (stateWord (stateIn bytes) k ≡ wordIn bytes k)
-    (λ m. head-word (stateIn bytes) k m ∙ six k m)
-    (λ g. let i = (k - 6) / 9 in let q = (k - 6) % 9 in
-    let kq : k ≡ 6 + 9 * i + q = omega arith in
-    let codes = every-says (λ i. placeCodes (wordIn bytes) (6 + 9 * i)) places i (and-eq-true-iff (eqb (length bytes) 600) _ .0 e .1) (omega arith) in
-    ap (stateWord (stateIn bytes)) kq ∙ place-word (stateIn bytes) i q (omega arith)
-    ∙ ap (λ (x : Entry). getD (entryWords x) q 0) (entry-is (wordIn bytes) i (omega arith))
-    ∙ entry-words (wordIn bytes) (6 + 9 * i) q codes (omega arith) ∙ ap (wordIn bytes) (sym kq))
-  where
-    six : (k : ℕ) → k < 6 → getD (headWords (stateIn bytes)) k 0 ≡ wordIn bytes k
-    six zero l = refl
-    six (suc zero) l = refl
-    six (suc (suc zero)) l = refl
-    six (suc (suc (suc zero))) l = refl
-    six (suc (suc (suc (suc zero)))) l = refl
-    six (suc (suc (suc (suc (suc zero))))) l = refl
-    six (suc (suc (suc (suc (suc (suc k)))))) l = absurd (let z : ⊥ = omega arith in z)
+pub written-back : (words : List ℕ) → encoded words ≡ true → stateWords (stateIn words) ≡ words
+written-back words e =
+    written words places (omega arith) e ∙ rw (← encoded-length words e) (list-back words 0)
 
-pub long-state : (bytes : List ℕ) → encodes bytes ≡ true → length bytes ≡ 600
-unfolding encodes
-long-state bytes e = eqb-true (length bytes) 600 (and-eq-true-iff (eqb (length bytes) 600) _ .0 e .0)
-
-pub written-words : (bytes : List ℕ) → encodes bytes ≡ true → Octets bytes → bytesFrom (wordIn bytes) 150 ≡ bytes
-written-words bytes e o = bytes-back bytes 150 (long-state bytes e) o
-
-pub written-back : (bytes : List ℕ) → encodes bytes ≡ true → Octets bytes → stateBytes (stateIn bytes) ≡ bytes
-written-back bytes e o =
-    bytes-same (stateWord (stateIn bytes)) (wordIn bytes) 150 (λ k l. read-word bytes k e l) ∙ written-words bytes e o
-
--- an entry whose words these are
-entry-back : (e : Entry) (word : ℕ → ℕ) (k : ℕ) → ((q : ℕ) → q < 9 → word (k + q) ≡ getD (entryWords e) q 0)
-    → (entryFrom word k ≡ e) × (placeCodes word k ≡ true)
-entry-back e word k same =
-    let e0 : k ≡ k + 0 = omega arith in
-    let w0 = ap word e0 ∙ same 0 (omega arith) in
-    rw (w0, same 1 (omega arith), same 2 (omega arith), same 3 (omega arith), same 4 (omega arith), same 5 (omega arith), same 6 (omega arith), same 7 (omega arith), same 8 (omega arith))
-    (by-kind (e .task) (e .job) (e .last))
+-- A STATE THAT WAS WRITTEN IS READ BACK as it was.
+entry-back : (s : State) (i : ℕ) → i < places → (entryFrom (stateWords s) (placeStart i) ≡ entryIn s i) × (placeEncoded (stateWords s) (placeStart i) ≡ true)
+entry-back s i l =
+    let w : (q : ℕ) → q < placeSize → wordIn (stateWords s) (placeStart i + q) ≡ getD (entryWords (entryIn s i)) q 0 = λ q m. place-word s i q l m in
+    rw (w 0 (omega arith), w 1 (omega arith), w 2 (omega arith), w 3 (omega arith), w 4 (omega arith), w 5 (omega arith), w 6 (omega arith), w 7 (omega arith), w 8 (omega arith))
+    (by-kind (entryIn s i .task) (entryIn s i .job) (entryIn s i .last))
   where
     by-kind : (t : Record) (j : Job) (l : Last)
-        → (_≡_ {A = Entry} (entryFrom (λ q. getD (recordWords t ++ jobWords j ++ lastWords l) q 0) 0) (record { task = t; job = j; last = l }))
-        × (placeCodes (λ q. getD (recordWords t ++ jobWords j ++ lastWords l) q 0) 0 ≡ true)
+        → (_≡_ {A = Entry} (entryFrom (recordWords t ++ jobWords j ++ lastWords l) 0) (record { task = t; job = j; last = l }))
+        × (placeEncoded (recordWords t ++ jobWords j ++ lastWords l) 0 ≡ true)
     by-kind t Resting Never = (refl, refl)
     by-kind t Resting (At a) = (refl, refl)
     by-kind t (Working b m) Never = (refl, refl)
     by-kind t (Working b m) (At a) = (refl, refl)
 
--- A STATE THAT WAS WRITTEN IS READ BACK: from any words that are its own
-pub from-words : (s : State) (word : ℕ → ℕ) → length (s .entries) ≡ 16 → ((k : ℕ) → k < 150 → word k ≡ stateWord s k) → stateFrom word ≡ s
-from-words s word whole same =
-    let entries : entriesFrom word ≡ s .entries =
-    ext-getD noEntry (entriesFrom word) (s .entries) (length-list (λ i. entryFrom word (6 + 9 * i)) places ∙ sym whole)
-    (λ i l. let m : i < 16 = omega (arith, length-list (λ i. entryFrom word (6 + 9 * i)) places) in entry-is word i m ∙ at i m .0) in
-    whole-state (s .sleep) (s .n) (s .clock) (s .entries) (word 0) (word 1) (word 2) (word 3) (word 4) (word 5) (entriesFrom word)
-    (head 0 (omega arith)) (head 1 (omega arith)) (head 2 (omega arith)) (head 3 (omega arith)) (head 4 (omega arith)) (head 5 (omega arith)) entries
+pub read-back : (s : State) → length (s .entries) ≡ places → stateIn (stateWords s) ≡ s
+read-back s whole = ap {A = List Entry} {B = State} (λ es. withEntries s es)
+    (list-same (λ i. entryFrom (stateWords s) (placeStart i)) (entryIn s) places (λ i l. entry-back s i l .0) ∙ rw (← whole) (list-back (s .entries) noEntry))
+
+pub state-encoded : (s : State) → encoded (stateWords s) ≡ true
+unfolding encoded
+state-encoded s =
+    rw (eq-eqb (length (stateWords s)) stateSize (length-state s)) (says-every (λ i. placeEncoded (stateWords s) (placeStart i)) places (λ i l. entry-back s i l .1))
+
+-- A TALLY that is read from words is written back as those words.
+pub tally-written-back : (words : List ℕ) → length words ≡ tallySize → tallyWords (tallyIn words) ≡ words
+unfolding listFrom
+tally-written-back words e = rw e at (list-back words 0)
+
+-- A PLACE IS PUT into the words of a state, and they are the words of the state with that entry.
+pub entry-put : (s : State) (i : ℕ) (e : Entry) → length (s .entries) ≡ places → i < places → puts (stateWords s) (placeStart i) 0 (entryWords e) ≡ stateWords (withEntry s i e)
+entry-put s i e whole l =
+    ext-getD 0 put (stateWords t) (length-puts (stateWords s) (placeStart i) 0 (entryWords e) ∙ length-state s ∙ sym (length-state t)) (λ m lm. by-lt m headSize (getD put m 0 ≡ wordIn (stateWords t) m)
+    (λ h. puts-out (stateWords s) (placeStart i) 0 (entryWords e) m (inl (omega arith)) ∙ List·getD-append (headWords s) (placesWords (s .entries) places) 0 m h ∙ sym (List·getD-append (headWords s) (placesWords (t .entries) places) 0 m h))
+    (λ g. let p = (m - headSize) / placeSize in
+    let q = (m - headSize) % placeSize in
+    let split : m ≡ placeStart p + q = omega arith in
+    rw split (place p q (omega (arith, length-puts (stateWords s) (placeStart i) 0 (entryWords e), length-state s)) (omega arith))))
   where
-    at : (i : ℕ) → i < 16 → (entryFrom word (6 + 9 * i) ≡ entryIn s i) × (placeCodes word (6 + 9 * i) ≡ true)
-    at i l = entry-back (entryIn s i) word (6 + 9 * i) (λ q m. same (6 + 9 * i + q) (omega arith) ∙ place-word s i q m)
+    t : State
+    t = withEntry s i e
 
-    head : (k : ℕ) → k < 6 → word k ≡ getD (headWords s) k 0
-    head k l = same k (omega arith) ∙ head-word s k l
+    put : List ℕ
+    put = puts (stateWords s) (placeStart i) 0 (entryWords e)
 
-    whole-state : (sleep : Record) (n clock : ℕ) (entries : List Entry) (a b c d e f : ℕ) (es : List Entry)
-        → a ≡ sleep .label → b ≡ sleep .work → c ≡ sleep .period → d ≡ sleep .reserved → e ≡ n → f ≡ clock → es ≡ entries
-        → _≡_ {A = State} (record { sleep = record { label = a; work = b; period = c; reserved = d }; n = e; clock = f; entries = es }) (record { sleep = sleep; n = n; clock = clock; entries = entries })
-    whole-state sleep n clock entries a b c d e f es p q r t u v w = rw (p, q, r, t, u, v, w)
+    place : (p q : ℕ) → p < places → q < placeSize → getD put (placeStart p + q) 0 ≡ wordIn (stateWords t) (placeStart p + q)
+    place p q lp lq = by-eq p i (getD put (placeStart p + q) 0 ≡ wordIn (stateWords t) (placeStart p + q))
+        (λ here. let f : placeStart p + q ≡ placeStart i + 0 + q = omega arith in
+        ap (λ (y : ℕ). getD put y 0) f
+        ∙ puts-in (stateWords s) (placeStart i) 0 (entryWords e) q (omega (arith, length-entry e, length-state s)) (omega (arith, length-entry e))
+        ∙ sym (place-word t p q lp lq ∙ ap (λ (y : Entry). getD (entryWords y) q 0) (ap (entryIn t) here ∙ getD-set-same (s .entries) i e noEntry (omega arith))))
+        (λ there. puts-out (stateWords s) (placeStart i) 0 (entryWords e) (placeStart p + q) (by-lt p i ((placeStart p + q < placeStart i + 0) ⊎ (placeStart i + 0 + length (entryWords e) ≤ placeStart p + q)) (λ b. inl (omega arith)) (λ b. inr (omega (arith, length-entry e))))
+        ∙ place-word s p q lp lq
+        ∙ sym (place-word t p q lp lq ∙ ap (λ (y : Entry). getD (entryWords y) q 0) (getD-set-other (s .entries) i p e noEntry there)))
 
-held-word : (s : State) → Held s → (k : ℕ) → k < 150 → wordIn (stateBytes s) k ≡ stateWord s k
-held-word s H k l = word-back (stateWord s) 150 k l (H .small k l)
+-- `Same` says that one number is 0 just where the other is.
+abbrev Same : ℕ → ℕ → Type 0
+Same m n = (m ≡ 0 → n ≡ 0) × (n ≡ 0 → m ≡ 0)
 
-pub read-back : (s : State) → Held s → stateIn (stateBytes s) ≡ s
-read-back s H = from-words s (wordIn (stateBytes s)) (H .whole) (held-word s H)
+same-zero : (m n : ℕ) → Same m n → eqb m 0 ≡ eqb n 0
+same-zero m n s = by-eq m 0 (eqb m 0 ≡ eqb n 0) (λ z. rw (z, s .0 z)) (λ d. rw (ne-eqb m 0 d, ne-eqb n 0 (λ z. d (s .1 z))))
 
--- and its bytes encode a state
-pub bytes-encode : (s : State) → Held s → encodes (stateBytes s) ≡ true
-unfolding encodes
-bytes-encode s H =
-    rw (eq-eqb (length (stateBytes s)) 600 (length-bytes (stateWord s) 150))
-    (says-every (λ i. placeCodes (wordIn (stateBytes s)) (6 + 9 * i)) places (λ i l.
-    entry-back (entryIn s i) (wordIn (stateBytes s)) (6 + 9 * i) (λ q m. held-word s H (6 + 9 * i + q) (omega arith) ∙ place-word s i q m) .1))
+-- NO BIT IN TWO WORDS is no bit in either: their sum is 0.
+or-sum : (x y b : ℕ) → Same x y → Same (bitOr x b) (y + b)
+or-sum x y b s = (
+  λ z.
+      let p : x ≡ 0 = omega (arith, or-add-and x b, and-le-r x b) in
+      let q : b ≡ 0 = omega (arith, or-add-and x b, and-le-l x b) in
+      omega (arith, s .0 p),
+  λ z. let p : x ≡ 0 = s .1 (omega arith) in omega (arith, or-add-and x b),
+)
 
--- A TALLY, there and back
-pub tally-word : (bytes : List ℕ) (k : ℕ) → k < 3 → tallyWord (tallyIn bytes) k ≡ wordIn bytes k
-tally-word bytes zero l = refl
-tally-word bytes (suc zero) l = refl
-tally-word bytes (suc (suc zero)) l = refl
-tally-word bytes (suc (suc (suc k))) l = absurd (let z : ⊥ = omega arith in z)
-
-pub tally-written-back : (bytes : List ℕ) → length bytes ≡ 12 → Octets bytes → tallyBytes (tallyIn bytes) ≡ bytes
-tally-written-back bytes e o =
-    bytes-same (tallyWord (tallyIn bytes)) (wordIn bytes) 3 (λ k l. tally-word bytes k l) ∙ bytes-back bytes 3 e o
-
-pub tally-read-back : (t : Tally) → ((k : ℕ) → k < 3 → tallyWord t k < 2 ^ 32) → tallyIn (tallyBytes t) ≡ t
-tally-read-back t small =
-    let b : (k : ℕ) → k < 3 → wordIn (tallyBytes t) k ≡ tallyWord t k = λ k l. word-back (tallyWord t) 3 k l (small k l) in
-    rw (b 0 (omega arith), b 1 (omega arith), b 2 (omega arith))
-
--- A SPARE PLACE, encoded, is nine words that are 0
-rests-blank : (kind a l kind' a' : ℕ) → kindCodes kind a l && kindCodes kind' a' 0 ≡ true → restsNever (jobFrom kind a l) (lastFrom kind' a') ≡ true
+-- A SPARE PLACE that is encoded has a job and a last release whose words are 0.
+rests-blank : (kind a l kind' a' : ℕ) → kindEncoded kind a l && kindEncoded kind' a' 0 ≡ true → restsNever (jobFrom kind a l) (lastFrom kind' a') ≡ true
     → kind + a + l + (kind' + a') ≡ 0
 rests-blank zero a l zero a' c r =
-    let b = and-eq-true-iff (eqb a 0 && eqb l 0) (eqb a' 0 && true) .0 c in
-    let j = and-eq-true-iff (eqb a 0) (eqb l 0) .0 (b .0) in
-    let t = and-eq-true-iff (eqb a' 0) true .0 (b .1) in
-    omega (arith, eqb-true a 0 (j .0), eqb-true l 0 (j .1), eqb-true a' 0 (t .0))
+    let b = and-eq-true-iff (eqb (0 + a + l) 0) (eqb (0 + a' + 0) 0) .0 c in
+    omega (arith, eqb-true (0 + a + l) 0 (b .0), eqb-true (0 + a' + 0) 0 (b .1))
 rests-blank zero a l (suc kind') a' c r = let z : _≡_ {A = ℕ} 0 1 = cc in absurd (let y : ⊥ = omega arith in y)
 rests-blank (suc kind) a l kind' a' c r = let z : _≡_ {A = ℕ} 0 1 = cc in absurd (let y : ⊥ = omega arith in y)
 
-pub spare-blank : (word : ℕ → ℕ) (k : ℕ) → placeCodes word k && spareFits (entryFrom word k) ≡ placeBlank word k
-spare-blank word k = by-eq sum 0 (placeCodes word k && spareFits (entryFrom word k) ≡ placeBlank word k)
+-- A place is encoded and spare exactly where the sum of its nine words, a record's, a job's and a last release's, is 0.
+nine-blank : (label work period reserved kind a l kind' a' : ℕ)
+    → let task : Record = record { label = label; work = work; period = period; reserved = reserved } in
+    kindEncoded kind a l && kindEncoded kind' a' 0 && spareFits (record { task = task; job = jobFrom kind a l; last = lastFrom kind' a' })
+    ≡ eqb (label + work + period + reserved + kind + a + l + kind' + a') 0
+nine-blank label work period reserved kind a l kind' a' = by-eq sum 0 (test ≡ eqb sum 0)
     (λ z. zeros (omega arith) (omega arith) (omega arith) (omega arith) (omega arith) (omega arith) (omega arith) (omega arith) (omega arith) ∙ sym (eq-eqb sum 0 z))
-    (λ n. some n (placeCodes word k && spareFits (entryFrom word k)) refl ∙ sym (ne-eqb sum 0 n))
+    (λ n. some n test refl ∙ sym (ne-eqb sum 0 n))
   where
+    task : Record
+    task = record { label = label; work = work; period = period; reserved = reserved }
+
     sum : ℕ
-    sum = word k + word (k + 1) + word (k + 2) + word (k + 3) + (word (k + 4) + word (k + 5) + word (k + 6)) + (word (k + 7) + word (k + 8))
+    sum = label + work + period + reserved + kind + a + l + kind' + a'
 
-    zeros : word k ≡ 0 → word (k + 1) ≡ 0 → word (k + 2) ≡ 0 → word (k + 3) ≡ 0 → word (k + 4) ≡ 0 → word (k + 5) ≡ 0 → word (k + 6) ≡ 0 → word (k + 7) ≡ 0 → word (k + 8) ≡ 0
-        → placeCodes word k && spareFits (entryFrom word k) ≡ true
-    zeros a b c d e f g h i = rw (a, b, c, d, e, f, g, h, i)
+    test : Bool
+    test = kindEncoded kind a l && kindEncoded kind' a' 0 && spareFits (record { task = task; job = jobFrom kind a l; last = lastFrom kind' a' })
 
-    some : (sum ≡ 0 → ⊥) → (b : Bool) → placeCodes word k && spareFits (entryFrom word k) ≡ b → b ≡ false
+    zeros : label ≡ 0 → work ≡ 0 → period ≡ 0 → reserved ≡ 0 → kind ≡ 0 → a ≡ 0 → l ≡ 0 → kind' ≡ 0 → a' ≡ 0 → test ≡ true
+    zeros e1 e2 e3 e4 e5 e6 e7 e8 e9 = rw (e1, e2, e3, e4, e5, e6, e7, e8, e9)
+
+    some : (sum ≡ 0 → ⊥) → (b : Bool) → test ≡ b → b ≡ false
     some n false e = refl
     some n true e =
-        let p = and-eq-true-iff (placeCodes word k) (spareFits (entryFrom word k)) .0 e in
-        let q = and-eq-true-iff (zeroed (entryFrom word k .task)) (restsNever (entryFrom word k .job) (entryFrom word k .last)) .0 (p .1) in
-        let r = rests-blank (word (k + 4)) (word (k + 5)) (word (k + 6)) (word (k + 7)) (word (k + 8)) (p .0) (q .1) in
-        let a = and-eq-true-iff (eqb (word k) 0 && eqb (word (k + 1)) 0 && eqb (word (k + 2)) 0) (eqb (word (k + 3)) 0) .0 (q .0) in
-        let b = and-eq-true-iff (eqb (word k) 0 && eqb (word (k + 1)) 0) (eqb (word (k + 2)) 0) .0 (a .0) in
-        let c = and-eq-true-iff (eqb (word k) 0) (eqb (word (k + 1)) 0) .0 (b .0) in
-        absurd (n (omega (arith, r, eqb-true (word k) 0 (c .0), eqb-true (word (k + 1)) 0 (c .1), eqb-true (word (k + 2)) 0 (b .1), eqb-true (word (k + 3)) 0 (a .1))))
+        let p = and-eq-true-iff (kindEncoded kind a l && kindEncoded kind' a' 0) (spareFits (record { task = task; job = jobFrom kind a l; last = lastFrom kind' a' })) .0 e in
+        let q = and-eq-true-iff (zeroed task) (restsNever (jobFrom kind a l) (lastFrom kind' a')) .0 (p .1) in
+        let x = and-eq-true-iff (eqb label 0 && eqb work 0 && eqb period 0) (eqb reserved 0) .0 (q .0) in
+        let y = and-eq-true-iff (eqb label 0 && eqb work 0) (eqb period 0) .0 (x .0) in
+        let z = and-eq-true-iff (eqb label 0) (eqb work 0) .0 (y .0) in
+        absurd (n (omega (arith, rests-blank kind a l kind' a' (p .0) (q .1), eqb-true label 0 (z .0), eqb-true work 0 (z .1), eqb-true period 0 (y .1), eqb-true reserved 0 (x .1))))
+
+pub spare-blank : (words : List ℕ) (k : ℕ) → placeEncoded words k && spareFits (entryFrom words k) ≡ eqb (anyWord words k) 0
+spare-blank words k =
+    nine-blank (w labelAt) (w workAt) (w periodAt) (w reservedAt) (w jobAt) (w releaseAt) (w leftAt) (w lastAt) (w tickAt)
+    ∙ sym (same-zero (anyWord words k) _ (or-sum _ _ (w tickAt) (or-sum _ _ (w lastAt) (or-sum _ _ (w leftAt) (or-sum _ _ (w releaseAt) (or-sum _ _ (w jobAt)
+    (or-sum _ _ (w reservedAt) (or-sum _ _ (w periodAt) (or-sum (w labelAt) (w labelAt) (w workAt) (λ z. z, λ z. z))))))))))
+  where
+    w : ℕ → ℕ
+    w q = wordIn words (k + q)
+
+-- A state that was read has its 16 places.
+pub read-whole : (words : List ℕ) → length (stateIn words .entries) ≡ places
+read-whole words = length-list (λ i. entryFrom words (placeStart i)) places
+
+-- ON WORDS THAT ENCODE A STATE, a tick, a run of the task at place i and a release put the words of the state after it.
+pub tick-put : (words : List ℕ) → encoded words ≡ true → set words clockAt (wordIn words clockAt + 1) ≡ stateWords (aged (stateIn words))
+tick-put words e = ap (λ (x : List ℕ). set x clockAt (wordIn words clockAt + 1)) (sym (written-back words e))
+
+pub run-put : (words : List ℕ) (i : ℕ) → encoded words ≡ true → i < places
+    → let w = set words clockAt (wordIn words clockAt + 1) in puts w (placeStart i) 0 (entryWords (workedOf (entryFrom w (placeStart i)))) ≡ stateWords (afterRun (stateIn words) i)
+run-put words i e l =
+    let s = aged (stateIn words) in
+    ap (λ (w : List ℕ). puts w (placeStart i) 0 (entryWords (workedOf (entryFrom w (placeStart i))))) (tick-put words e)
+    ∙ ap (λ (x : Entry). puts (stateWords s) (placeStart i) 0 (entryWords (workedOf x))) (entry-back s i l .0)
+    ∙ entry-put s i (workedOf (entryIn s i)) (read-whole words) l
+
+pub release-put : (words : List ℕ) (i demand : ℕ) → encoded words ≡ true → i < places
+    → puts words (placeStart i) 0 (entryWords (record { task = recordFrom words (placeStart i); job = Working (wordIn words clockAt) demand; last = At (wordIn words clockAt) }))
+    ≡ stateWords (withEntry (stateIn words) i (releasedEntry (stateIn words) i demand))
+release-put words i demand e l =
+    let s = stateIn words in
+    ap (λ (x : Entry). puts words (placeStart i) 0 (entryWords (record { task = x .task; job = Working (s .clock) demand; last = At (s .clock) }))) (sym (entry-is words i l))
+    ∙ ap (λ (w : List ℕ). puts w (placeStart i) 0 (entryWords (releasedEntry s i demand))) (sym (written-back words e))
+    ∙ entry-put s i (releasedEntry s i demand) (read-whole words) l
+
+-- A COUNT of a tally that is put one up gives the words of the tally after it.
+abbrev pub countAt : Count → ℕ
+countAt Runs = runAt
+countAt Slots = slotAt
+countAt Tails = tailAt
+
+pub count-put : (words : List ℕ) (count : Count) → length words ≡ tallySize → set words (countAt count) (wordIn words (countAt count) + 1) ≡ tallyWords (raised (tallyIn words) count)
+count-put words Runs l = ap (λ (x : List ℕ). set x runAt (wordIn words runAt + 1)) (sym (tally-written-back words l))
+count-put words Slots l = ap (λ (x : List ℕ). set x slotAt (wordIn words slotAt + 1)) (sym (tally-written-back words l))
+count-put words Tails l = ap (λ (x : List ℕ). set x tailAt (wordIn words tailAt + 1)) (sym (tally-written-back words l))

@@ -1,12 +1,10 @@
--- bytes and words, there and back
+-- These laws say what a buffer holds after words are put into it.
 pub mod WordLaws
--- states and bytes, there and back
+-- These laws say that states and words are read and written, there and back.
 pub mod LayoutLaws
--- words put into a state's bytes
-pub mod PutLaws
--- what the calls on bytes know of the calls on states
-pub mod MovedLaws
--- the calls on bytes by their cases
-pub mod OnLaws
--- what is saved is read back, and histories go on from it
+-- These laws take the calls on words by their cases.
+pub mod CallLaws
+-- This law says that energy has room above a number.
+pub mod EnergyLaws
+-- What is saved is read back, and histories go on from it.
 pub mod SavedLaws

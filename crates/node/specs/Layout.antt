@@ -1,11 +1,13 @@
--- The layout of the buffers that a caller lends: the words of a state, a tally and a verdict in their order, and what
--- words are read as. include/node.h has the same for C.
-use Prim.Native.Nat.{ℕ, zero, suc, _+_, _-_, _*_, _/_, _%_, _<_, _^_}
-use mathlib.Core.Path.{_≡_}
+-- This is the layout of the buffers that a caller lends: the 32-bit words of a state, a tally and a verdict in their
+-- order, and what words are read as. include/node.h has the same for C.
+use Prim.Native.Nat.{ℕ, zero, suc, _+_, _*_, _<_}
 use mathlib.Core.List.{List, [], _∷_, _++_}
-use mathlib.Core.Bool.{Bool, cond, _&&_, _||_}
-use lib.Dec.{eqb, ltb}
+use mathlib.Core.Bool.{Bool, _&&_, _||_}
+use lib.Bits.{bitOr}
+use lib.Dec.{eqb}
 use lib.ListN.{length, getD}
+use Rattle.base.specs.Every.{every}
+use Rattle.base.specs.List.{listFrom}
 use Rattle.table.specs.declared.Record.{Record}
 use Rattle.table.specs.Sound.{places}
 use Rattle.admission.specs.declared.Verdict.{Verdict}
@@ -16,10 +18,9 @@ use Rattle.scheduler.specs.declared.Last.the-variants.{Never, At}
 use Rattle.scheduler.specs.declared.Entry.{Entry}
 use Rattle.scheduler.specs.declared.State.{State}
 use Rattle.scheduler.specs.declared.Tally.{Tally}
-use Rattle.scheduler.specs.States.{entryIn, every}
-use Rattle.node.specs.Words.{bytesFrom, wordIn}
+use Rattle.scheduler.specs.States.{noEntry}
 
--- the words before the first place, of a place, and of a state; the number of a place's first word
+-- These say HOW MANY WORDS stand before the first place, and how many a place, a state, a tally and a verdict have.
 abbrev pub headSize : ℕ
 headSize = 6
 
@@ -29,67 +30,122 @@ placeSize = 9
 abbrev pub stateSize : ℕ
 stateSize = headSize + placeSize * places
 
-abbrev pub placeStart : ℕ → ℕ
-placeStart i = headSize + placeSize * i
-
--- the words of a tally and of a verdict
 abbrev pub tallySize : ℕ
 tallySize = 3
 
 abbrev pub verdictSize : ℕ
-verdictSize = 3 * places
+verdictSize = places + places + places
 
--- WRITTEN: a record, 4 words
+-- These say WHERE WORDS STAND: `placeStart` is a place's first word, and the others are counted from there on, the
+-- record first, then job and last release.
+abbrev pub placeStart : ℕ → ℕ
+placeStart i = headSize + placeSize * i
+
+abbrev pub labelAt : ℕ
+labelAt = 0
+
+abbrev pub workAt : ℕ
+workAt = 1
+
+abbrev pub periodAt : ℕ
+periodAt = 2
+
+abbrev pub reservedAt : ℕ
+reservedAt = 3
+
+abbrev pub jobAt : ℕ
+jobAt = 4
+
+abbrev pub releaseAt : ℕ
+releaseAt = 5
+
+abbrev pub leftAt : ℕ
+leftAt = 6
+
+abbrev pub lastAt : ℕ
+lastAt = 7
+
+abbrev pub tickAt : ℕ
+tickAt = 8
+
+-- There is room for a place where its words from k on are all there.
+pub record Room (words : List ℕ) (k : ℕ) : Type 0 where
+  pub label : k + labelAt < length words
+  pub work : k + workAt < length words
+  pub period : k + periodAt < length words
+  pub reserved : k + reservedAt < length words
+  pub job : k + jobAt < length words
+  pub release : k + releaseAt < length words
+  pub left : k + leftAt < length words
+  pub last : k + lastAt < length words
+  pub tick : k + tickAt < length words
+
+-- The number n and the clock stand after the sleep record.
+abbrev pub nAt : ℕ
+nAt = 4
+
+abbrev pub clockAt : ℕ
+clockAt = 5
+
+-- These say where the counts of a tally stand.
+abbrev pub runAt : ℕ
+runAt = 0
+
+abbrev pub slotAt : ℕ
+slotAt = 1
+
+abbrev pub tailAt : ℕ
+tailAt = 2
+
+-- A record IS WRITTEN as its label, work, period and reserved field.
 abbrev pub recordWords : Record → List ℕ
 recordWords r = r .label ∷ r .work ∷ r .period ∷ r .reserved ∷ []
 
--- a job, 3 words: 0 resting, 1 at work; its release tick and its work left
+-- A job is written as 0 resting or 1 at work, then its release tick and its work left.
 abbrev pub jobWords : Job → List ℕ
 jobWords Resting = 0 ∷ 0 ∷ 0 ∷ []
 jobWords (Working a l) = 1 ∷ a ∷ l ∷ []
 
--- a last release, 2 words: 0 never, 1 at a tick; that tick
+-- A last release is written as 0 never or 1 at a tick, then that tick.
 abbrev pub lastWords : Last → List ℕ
 lastWords Never = 0 ∷ 0 ∷ []
 lastWords (At a) = 1 ∷ a ∷ []
 
--- a place, 9 words
+-- A place is written as its record, its job and its last release.
 abbrev pub entryWords : Entry → List ℕ
 entryWords e = recordWords (e .task) ++ jobWords (e .job) ++ lastWords (e .last)
 
--- what stands before the first place, 6 words: the sleep record, n and the clock
+-- The first n places are written one after the other.
+unfoldable pub placesWords : List Entry → ℕ → List ℕ
+placesWords entries zero = []
+placesWords entries (suc i) = placesWords entries i ++ entryWords (getD entries i noEntry)
+
+-- What stands before the places is the sleep record, n and the clock.
 abbrev pub headWords : State → List ℕ
 headWords s = recordWords (s .sleep) ++ s .n ∷ s .clock ∷ []
 
--- word k of a state: the head, then 16 places
-unfoldable pub stateWord : State → ℕ → ℕ
-stateWord s k =
-    cond (ltb k headSize) (getD (headWords s) k 0)
-    (getD (entryWords (entryIn s ((k - headSize) / placeSize))) ((k - headSize) % placeSize) 0)
+-- A STATE is written as what stands before its places, then all places.
+abbrev pub stateWords : State → List ℕ
+stateWords s = headWords s ++ placesWords (s .entries) places
 
--- a state, 150 words
-abbrev pub stateBytes : State → List ℕ
-stateBytes s = bytesFrom (stateWord s) stateSize
+-- A TALLY is written as its run, slot and tail counts.
+abbrev pub tallyWords : Tally → List ℕ
+tallyWords t = t .run ∷ t .slot ∷ t .tail ∷ []
 
--- a tally, 3 words
-abbrev pub tallyWord : Tally → ℕ → ℕ
-tallyWord t k = getD (t .run ∷ t .slot ∷ t .tail ∷ []) k 0
+-- A VERDICT is written as its windows, figures and rounds by place.
+abbrev pub byPlace : List ℕ → List ℕ
+byPlace numbers = listFrom (λ i. getD numbers i 0) places
 
-abbrev pub tallyBytes : Tally → List ℕ
-tallyBytes t = bytesFrom (tallyWord t) tallySize
+abbrev pub verdictWords : Verdict → List ℕ
+verdictWords v = byPlace (v .windows) ++ byPlace (v .figures) ++ byPlace (v .rounds)
 
--- a verdict, 48 words: 16 windows, 16 figures, 16 rounds
-unfoldable pub verdictWord : Verdict → ℕ → ℕ
-verdictWord v k =
-    cond (ltb k 16) (getD (v .windows) k 0)
-    (cond (ltb k 32) (getD (v .figures) (k - 16) 0) (getD (v .rounds) (k - 32) 0))
+-- These ARE READ from words: word k; a record, a job, a last release and an entry whose first word has number k.
+abbrev pub wordIn : List ℕ → ℕ → ℕ
+wordIn words k = getD words k 0
 
-abbrev pub verdictBytes : Verdict → List ℕ
-verdictBytes v = bytesFrom (verdictWord v) verdictSize
-
--- READ: a record whose first word has number k
-abbrev pub recordFrom : (ℕ → ℕ) → ℕ → Record
-recordFrom word k = record { label = word k; work = word (k + 1); period = word (k + 2); reserved = word (k + 3) }
+abbrev pub recordFrom : List ℕ → ℕ → Record
+recordFrom words k =
+    record { label = wordIn words (k + labelAt); work = wordIn words (k + workAt); period = wordIn words (k + periodAt); reserved = wordIn words (k + reservedAt) }
 
 abbrev pub jobFrom : ℕ → ℕ → ℕ → Job
 jobFrom zero a l = Resting
@@ -99,52 +155,56 @@ abbrev pub lastFrom : ℕ → ℕ → Last
 lastFrom zero a = Never
 lastFrom (suc kind) a = At a
 
-abbrev pub entryFrom : (ℕ → ℕ) → ℕ → Entry
-entryFrom word k = record { task = recordFrom word k; job = jobFrom (word (k + 4)) (word (k + 5)) (word (k + 6)); last = lastFrom (word (k + 7)) (word (k + 8)) }
+abbrev pub entryFrom : List ℕ → ℕ → Entry
+entryFrom words k = record {
+  task = recordFrom words k;
+  job = jobFrom (wordIn words (k + jobAt)) (wordIn words (k + releaseAt)) (wordIn words (k + leftAt));
+  last = lastFrom (wordIn words (k + lastAt)) (wordIn words (k + tickAt));
+}
 
--- the list of f 0 to f (n - 1)
-unfoldable pub listFrom : {A : Type 0} → (ℕ → A) → ℕ → List A
-listFrom f zero = []
-listFrom f (suc n) = listFrom f n ++ f n ∷ []
-
-abbrev pub entriesFrom : (ℕ → ℕ) → List Entry
-entriesFrom word = listFrom (λ i. entryFrom word (placeStart i)) places
-
-abbrev pub stateFrom : (ℕ → ℕ) → State
-stateFrom word = record { sleep = recordFrom word 0; n = word 4; clock = word 5; entries = entriesFrom word }
-
--- THE STATE AND THE TALLY of some bytes
+-- THE STATE AND THE TALLY of some words are what the words are read as.
 abbrev pub entriesIn : List ℕ → List Entry
-entriesIn bytes = entriesFrom (wordIn bytes)
+entriesIn words = listFrom (λ i. entryFrom words (placeStart i)) places
 
 abbrev pub stateIn : List ℕ → State
-stateIn bytes = stateFrom (wordIn bytes)
+stateIn words = record { sleep = recordFrom words 0; n = wordIn words nAt; clock = wordIn words clockAt; entries = entriesIn words }
 
 abbrev pub tallyIn : List ℕ → Tally
-tallyIn bytes = record { run = wordIn bytes 0; slot = wordIn bytes 1; tail = wordIn bytes 2 }
+tallyIn words = record { run = wordIn words runAt; slot = wordIn words slotAt; tail = wordIn words tailAt }
 
--- a kind is 1, or it is 0 and what it would carry is 0
-abbrev pub kindCodes : ℕ → ℕ → ℕ → Bool
-kindCodes kind a b = eqb kind 1 || (eqb kind 0 && eqb a 0 && eqb b 0)
+-- A kind is encoded where it is 1, or it is 0 and so is what it would carry.
+abbrev pub kindEncoded : ℕ → ℕ → ℕ → Bool
+kindEncoded kind a b = eqb kind 1 || eqb (kind + a + b) 0
 
--- the words of a place encode an entry
-abbrev pub placeCodes : (ℕ → ℕ) → ℕ → Bool
-placeCodes word k = kindCodes (word (k + 4)) (word (k + 5)) (word (k + 6)) && kindCodes (word (k + 7)) (word (k + 8)) 0
+-- `placeEncoded` says that the words of a place from k on encode an entry.
+abbrev pub placeEncoded : List ℕ → ℕ → Bool
+placeEncoded words k =
+    kindEncoded (wordIn words (k + jobAt)) (wordIn words (k + releaseAt)) (wordIn words (k + leftAt))
+    && kindEncoded (wordIn words (k + lastAt)) (wordIn words (k + tickAt)) 0
 
--- the nine words of a place are 0
-abbrev pub placeBlank : (ℕ → ℕ) → ℕ → Bool
-placeBlank word k =
-    eqb (word k + word (k + 1) + word (k + 2) + word (k + 3) + (word (k + 4) + word (k + 5) + word (k + 6)) + (word (k + 7) + word (k + 8))) 0
+-- `anyWord` is the words of a place from k on, bit by bit in one: it is 0 where all of them are.
+abbrev pub anyWord : List ℕ → ℕ → ℕ
+anyWord words k =
+    bitOr
+    (bitOr
+    (bitOr
+    (bitOr
+    (bitOr
+    (bitOr
+    (bitOr
+    (bitOr (wordIn words (k + labelAt)) (wordIn words (k + workAt)))
+    (wordIn words (k + periodAt)))
+    (wordIn words (k + reservedAt)))
+    (wordIn words (k + jobAt)))
+    (wordIn words (k + releaseAt)))
+    (wordIn words (k + leftAt)))
+    (wordIn words (k + lastAt)))
+    (wordIn words (k + tickAt))
 
--- THE BYTES ENCODE A STATE: there are as many as its words have, 600, and every place is encoded
-unfoldable pub encodes : List ℕ → Bool
-encodes bytes = eqb (length bytes) (4 * stateSize) && every (λ i. placeCodes (wordIn bytes) (placeStart i)) places
+-- THE WORDS ENCODE A STATE where there are as many as it has, and every place is encoded.
+unfoldable pub encoded : List ℕ → Bool
+encoded words = eqb (length words) stateSize && every (λ i. placeEncoded words (placeStart i)) places
 
--- a tally: there are 12
-abbrev pub countsIn : List ℕ → Bool
-countsIn bytes = eqb (length bytes) (4 * tallySize)
-
--- a state of 16 places whose words are 32-bit words, as the machine's are
-pub record Held (s : State) : Type 0 where
-  pub whole : length (s .entries) ≡ places
-  pub small : (k : ℕ) → k < stateSize → stateWord s k < 2 ^ 32
+-- Words encode a tally where there are as many as it has.
+abbrev pub tallyEncoded : List ℕ → Bool
+tallyEncoded words = eqb (length words) tallySize

@@ -1,8 +1,8 @@
--- bytes as 32-bit words
+-- This module writes words one after the other.
 pub mod Words
--- the words of a state, a tally and a verdict, and their reading back
+-- This module has the words of a state, a tally and a verdict, and their reading back.
 pub mod Layout
--- what each call gives on any bytes
+-- This module says what each call gives on any words.
 pub mod Calls
--- a state saved and restored
+-- This module has a state saved and restored.
 pub mod Saved

@@ -1,71 +1,98 @@
-// The scheduler for firmware: calls on numbers and byte slices, exported for C. State and tally lie
-// in buffers that the caller lends, and every call works where they stand. specs/Layout.antt is the
-// layout of a buffer, specs/Calls.antt what each call gives; include/node.h says both for C.
+// This is the scheduler for firmware: calls on numbers and slices, exported for C. State and tally
+// lie in buffers of 32-bit words that the caller lends, and every call works where they stand.
+// specs/Layout.antt is the layout of a buffer, specs/Calls.antt says what each call gives, and
+// include/node.h says both for C.
 ghost use mathlib.Core.Path.{_≡_};
 ghost use mathlib.Core.Bool.{true};
 ghost use mathlib.Core.List.{[], _∷_};
-ghost use Prim.Native.Nat.{_+_, _-_, _*_, _≤_, _<_};
-ghost use lib.ListN.{length, getD};
-ghost use Rattle.theory.specs.First.{firstFrom};
+ghost use Prim.Native.Nat.{_+_, _-_, _≤_, _<_};
+ghost use lib.ListN.{length, getD, set};
+ghost use Rattle.base.specs.First.{firstFrom};
 ghost use Rattle.table.specs.Refusals.{toldOf};
-ghost use Rattle.scheduler.specs.States.{noEntry};
-ghost use Rattle.scheduler.specs.Steps.{came, behind, raised, tickOf};
+ghost use Rattle.table.specs.Sound.{places};
+ghost use Rattle.scheduler.specs.States.{clockEnd, noEntry, headOf, total};
 ghost use Rattle.scheduler.specs.Releases.{releasedState};
-ghost use Rattle.node.specs.Words.{wordIn, putWord, putWords};
-ghost use Rattle.node.specs.Layout.{recordFrom, recordWords, jobFrom, jobWords, lastFrom, lastWords, entryWords, listFrom, kindCodes, placeCodes, placeBlank, entriesIn, stateIn, stateBytes, tallyIn, tallyBytes, verdictBytes, encodes};
-ghost use Rattle.node.specs.Calls.{packed, toldAnswer, unfitAnswer, tickAnswer, admitOn, startOn, bytesFit, placeFitsIn, placesFitIn, releaseOn, stepOn, energyOn};
+ghost use Rattle.scheduler.specs.Steps.{came, tickOf, workedOf, afterTick, raised};
+ghost use Rattle.node.specs.Words.{puts};
+ghost use Rattle.node.specs.Layout.{Room, labelAt, jobAt, releaseAt, leftAt, lastAt, tickAt, stateSize, tallySize, verdictSize, recordWords, jobWords, lastWords, entryWords, stateWords, tallyWords, byPlace, verdictWords, wordIn, recordFrom, jobFrom, lastFrom, entryFrom, entriesIn, stateIn, tallyIn, anyWord, kindEncoded, placeEncoded, encoded};
+ghost use Rattle.node.specs.Calls.{packed, toldAnswer, unfitAnswer, tickAnswer, admitOn, startOn, releaseOn, stepOn, energyOn, Headed, wordsFit, placeFitsIn, placesFitIn, sparesBlank};
 use admission::Verdict;
 use admission::admit;
 use scheduler::Answer;
-use scheduler::CLOCK_END;
+use scheduler::Count;
 use scheduler::Entry;
+use scheduler::Head;
 use scheduler::Job;
 use scheduler::Last;
 use scheduler::State;
 use scheduler::Tally;
 use scheduler::Tick;
 use scheduler::came_by;
-use scheduler::counts;
+use scheduler::count_of;
 use scheduler::energy;
 use scheduler::head_fits;
-use scheduler::may_come;
+use scheduler::in_slot;
+use scheduler::last_boundary;
+use scheduler::may_release;
+use scheduler::may_step;
 use scheduler::place_fits;
+use scheduler::run_or_tail;
 use scheduler::start;
 use scheduler::worked;
 use table::MOST_TASKS;
 use table::PLACES;
 use table::Record;
 use table::Refusal;
-use table::Told;
+use table::no_window;
 use table::tell;
-use table::word_at;
 
-// The bytes of a state, a tally and a verdict.
-pub const STATE_BYTES: usize = 600;
+// These say how many words a state, a tally and a verdict have.
+pub const STATE_WORDS: usize = 150;
 
-pub const TALLY_BYTES: usize = 12;
+pub const TALLY_WORDS: usize = 3;
 
-pub const VERDICT_BYTES: usize = 192;
+pub const VERDICT_WORDS: usize = 48;
 
-// The words of a state before its first place, and of a place; the number of the first job's word.
+// These say how many words a state has before its first place, and how many a place has.
 const HEAD_WORDS: usize = 6;
 
 const PLACE_WORDS: usize = 9;
 
-const FIRST_JOB: usize = 10;
+// These say where the words of a record stand from its first on, and those of a place after its
+// record's.
+const LABEL_AT: usize = 0;
 
-// Where S, H, n and the clock stand in a state's bytes.
-const S_AT: usize = 4;
+const WORK_AT: usize = 1;
 
-const H_AT: usize = 8;
+const PERIOD_AT: usize = 2;
 
-const N_AT: usize = 16;
+const RESERVED_AT: usize = 3;
 
-const CLOCK_AT: usize = 20;
+const JOB_AT: usize = 4;
 
-// The admission test. The verdict is written where the set is admitted or gets 5.
+const RELEASE_AT: usize = 5;
+
+const LEFT_AT: usize = 6;
+
+const LAST_AT: usize = 7;
+
+const TICK_AT: usize = 8;
+
+// These say where n and the clock stand in a state, and the counts in a tally.
+const N_AT: usize = 4;
+
+const CLOCK_AT: usize = 5;
+
+const RUN_AT: usize = 0;
+
+const SLOT_AT: usize = 1;
+
+const TAIL_AT: usize = 2;
+
+// `node_admit` is the admission test. The verdict is written where the set is admitted or a task
+// has no window.
 #[no_mangle]
-pub extern "C" fn node_admit(table: &[u8], verdict: &mut [u8]) -> u64
+pub extern "C" fn node_admit(table: &[u8], verdict: &mut [u32]) -> u64
     ensures { λ r. ⌜ (r ≡ admitOn (now (table .entry)) (now (verdict .entry)) .answer)
         × (now (verdict .exit) ≡ admitOn (now (table .entry)) (now (verdict .entry)) .verdict) ⌝ }
 {
@@ -73,29 +100,28 @@ pub extern "C" fn node_admit(table: &[u8], verdict: &mut [u8]) -> u64
     let answer = v.answer;
     match answer {
         admission::Answer::Admitted { tasks } => {
-            if verdict.len() != VERDICT_BYTES {
+            if verdict.len() != VERDICT_WORDS {
                 return unfit();
             }
             put_verdict(verdict, v);
             answer_of(0, tasks, 0)
         }
         admission::Answer::Refused(refusal) => {
-            let told = tell(refusal);
-            if told.number != 5 {
-                return told_answer(told);
+            if !no_window(refusal) {
+                return refused(refusal);
             }
-            if verdict.len() != VERDICT_BYTES {
-                return told_answer(told);
+            if verdict.len() != VERDICT_WORDS {
+                return refused(refusal);
             }
             put_verdict(verdict, v);
-            told_answer(told)
+            refused(refusal)
         }
     }
 }
 
-// A fresh state of a table, written whole.
+// `node_start` writes a fresh state of a table, whole.
 #[no_mangle]
-pub extern "C" fn node_start(table: &[u8], state: &mut [u8]) -> u64
+pub extern "C" fn node_start(table: &[u8], state: &mut [u32]) -> u64
     ensures { λ r. ⌜ (r ≡ startOn (now (table .entry)) (now (state .entry)) .answer)
         × (now (state .exit) ≡ startOn (now (table .entry)) (now (state .entry)) .state) ⌝ }
 {
@@ -103,7 +129,7 @@ pub extern "C" fn node_start(table: &[u8], state: &mut [u8]) -> u64
     let answer = started.answer;
     match answer {
         Answer::Accepted => {
-            if state.len() != STATE_BYTES {
+            if state.len() != STATE_WORDS {
                 return unfit();
             }
             put_state(state, started.state);
@@ -113,70 +139,66 @@ pub extern "C" fn node_start(table: &[u8], state: &mut [u8]) -> u64
     }
 }
 
-// A release at the state's clock: five words of one place are written.
+// `node_release` is a release at the state's clock: the words of one place are written.
 #[no_mangle]
-pub extern "C" fn node_release(state: &mut [u8], task: u32, demand: u32) -> u64
+pub extern "C" fn node_release(state: &mut [u32], task: u32, demand: u32) -> u64
     ensures { λ r. ⌜ (r ≡ releaseOn (now (state .entry)) task demand .answer)
         × (now (state .exit) ≡ releaseOn (now (state .entry)) task demand .state) ⌝ }
 {
-    if !fits_in(state) {
+    if state.len() != STATE_WORDS {
         return unfit();
     }
-    let clock = word_at(state, CLOCK_AT);
-    let e = task_at(state, task);
-    let answer = may_come(
-        e,
-        word_at(state, N_AT),
-        word_at(state, H_AT),
-        clock,
-        task,
-        demand,
-    );
+    let head = head_in(state);
+    if !fits_in(state, head) {
+        return unfit();
+    }
+    let e = task_in(state, task);
+    let answer = may_release(head, e, task, demand);
     match answer {
         Answer::Refused(refusal) => refused(refusal),
         Answer::Accepted => {
-            take(state, task, clock, demand);
+            take(state, head, task, demand);
             0
         }
     }
 }
 
-// One tick: the clock, one count of the tally and, in a run, the job of one place are written.
+// `node_step` is one tick: the clock, one count of the tally and, in a run, the words of one place
+// are written.
 #[no_mangle]
-pub extern "C" fn node_step(state: &mut [u8], tally: &mut [u8]) -> u64
+pub extern "C" fn node_step(state: &mut [u32], tally: &mut [u32]) -> u64
     ensures { λ r. ⌜ (r ≡ stepOn (now (state .entry)) (now (tally .entry)) .answer)
         × (now (state .exit) ≡ stepOn (now (state .entry)) (now (tally .entry)) .state)
         × (now (tally .exit) ≡ stepOn (now (state .entry)) (now (tally .entry)) .tally) ⌝ }
 {
-    if tally.len() != TALLY_BYTES {
+    if tally.len() != TALLY_WORDS {
         return unfit();
     }
-    if !fits_in(state) {
+    if state.len() != STATE_WORDS {
         return unfit();
     }
-    let clock = word_at(state, CLOCK_AT);
-    let counted = tally_at(tally);
-    if !counts(counted, clock) {
-        return unfit();
+    let head = head_in(state);
+    let answer = may_step(fits_in(state, head), tally_in(tally), head.clock);
+    match answer {
+        Answer::Refused(refusal) => refused(refusal),
+        Answer::Accepted => {
+            let tick = tick_in(state, head);
+            move_on(state, head, tick);
+            raise(tally, count_of(head, tick));
+            tick_answer(tick)
+        }
     }
-    if CLOCK_END <= clock {
-        return refused(Refusal::ClockEnd);
-    }
-    let tick = tick_at(state);
-    move_on(state, tick);
-    raise(tally, tick);
-    tick_answer(tick)
 }
 
-// The energy of a tally.
+// `node_energy` gives the energy of a tally.
 #[no_mangle]
-pub extern "C" fn node_energy(tally: &[u8], run: u32, sleep: u32) -> u64
+pub extern "C" fn node_energy(tally: &[u32], run: u32, sleep: u32) -> u64
     ensures { λ r. ⌜ r ≡ energyOn (now (tally .entry)) run sleep ⌝ }
 {
-    if tally.len() != TALLY_BYTES {
+    if tally.len() != TALLY_WORDS {
         return unfit();
     }
-    let counted = tally_at(tally);
+    let counted = tally_in(tally);
     let reading = energy(counted, run, sleep);
     let answer = reading.answer;
     match answer {
@@ -185,28 +207,22 @@ pub extern "C" fn node_energy(tally: &[u8], run: u32, sleep: u32) -> u64
     }
 }
 
-// The answer to a buffer of another length, and to bytes that encode no state: number 6.
+// `unfit` is the answer to a buffer of another length, and to words that encode no state: number 6.
 fn unfit() -> u64
     ensures { λ r. ⌜ r ≡ unfitAnswer ⌝ }
 {
-    refused(Refusal::Rules)
+    refused(Refusal::Unfit)
 }
 
-// A refusal's answer.
+// `refused` is a refusal's answer.
 fn refused(refusal: Refusal) -> u64
     ensures { λ r. ⌜ r ≡ toldAnswer (toldOf refusal) ⌝ }
 {
     let told = tell(refusal);
-    told_answer(told)
-}
-
-fn told_answer(told: Told) -> u64
-    ensures { λ r. ⌜ r ≡ toldAnswer told ⌝ }
-{
     answer_of(told.number, told.place, told.rounds)
 }
 
-// What a tick was: its kind, and the task that ran.
+// `tick_answer` tells what a tick was: its kind, and the task that ran.
 fn tick_answer(tick: Tick) -> u64
     ensures { λ r. ⌜ r ≡ tickAnswer tick ⌝ }
 {
@@ -217,129 +233,154 @@ fn tick_answer(tick: Tick) -> u64
     }
 }
 
-// An answer: the number in its low byte, and two parts above it.
+// An answer has the number in its low byte, and two parts above it.
 fn answer_of(number: u32, a: u32, b: u32) -> u64
     ensures { λ r. ⌜ r ≡ packed number a b ⌝ }
 {
     number as u64 + 256 * a as u64 + 65536 * b as u64
 }
 
-// Whether the bytes encode a state that keeps its rules.
-fn fits_in(state: &[u8]) -> bool
-    ensures { λ r. ⌜ r ≡ bytesFit (now (state .entry)) ⌝ }
+// `head_in` reads what stands before the places of a state.
+fn head_in(state: &[u32]) -> Head
+    requires { ⌜ length (now state) ≡ stateSize ⌝ }
+    ensures { λ r. ⌜ r ≡ headOf (stateIn (now (state .entry))) ⌝ }
 {
-    if state.len() != STATE_BYTES {
-        return false;
-    }
     let sleep = record_in(state, 0);
-    let first = record_in(state, HEAD_WORDS);
-    let n = word_at(state, N_AT);
-    let clock = word_at(state, CLOCK_AT);
-    if !head_fits(sleep, first, n, clock) {
-        return false;
+    Head {
+        sleep: sleep,
+        n: state[N_AT],
+        clock: state[CLOCK_AT],
     }
-    places_fit_in(state, n, sleep.period, clock)
 }
 
-// Whether every place is encoded and keeps its rules.
-fn places_fit_in(state: &[u8], n: u32, h: u32, clock: u32) -> bool
-    ensures { λ r. ⌜ r ≡ placesFitIn (now (state .entry)) n h clock ⌝ }
+// `fits_in` tells whether the words, whose head is handed in, encode a state that keeps its rules.
+fn fits_in(state: &[u32], head: Head) -> bool
+    requires { ⌜ Headed (now state) head ⌝ }
+    ensures { λ r. ⌜ r ≡ wordsFit (now (state .entry)) ⌝ }
 {
+    let first = record_in(state, HEAD_WORDS);
+    if !head_fits(head, first) {
+        return false;
+    }
+    if !tasks_fit_in(state, head) {
+        return false;
+    }
+    spares_blank(state, head.n)
+}
+
+// `tasks_fit_in` tells whether every task's place is encoded and keeps its rules.
+fn tasks_fit_in(state: &[u32], head: Head) -> bool
+    requires { ⌜ (length (now state) ≡ stateSize) × (head .n ≤ places) ⌝ }
+    ensures { λ r. ⌜ r ≡ placesFitIn (now (state .entry)) head (head .n) ⌝ }
+{
+    let n = head.n;
     let mut above: u32 = 0;
     let mut i: u32 = 0;
-    while i < MOST_TASKS {
-        if !place_fits_in(state, n, i, above, h, clock) {
+    while i < n {
+        if !place_fits_in(state, head, i, above) {
             return false;
         }
-        above = word_at(state, 4 * (HEAD_WORDS + PLACE_WORDS * i as usize + 2));
+        above = state[HEAD_WORDS + PLACE_WORDS * i as usize + PERIOD_AT];
         i += 1;
     }
     true
 }
 
-// The same of one place.
-fn place_fits_in(state: &[u8], n: u32, i: u32, above: u32, h: u32, clock: u32) -> bool
-    requires { ⌜ i < 16 ⌝ }
-    ensures { λ r. ⌜ r ≡ placeFitsIn (now (state .entry)) n h clock i above ⌝ }
-{
-    if n <= i {
-        return blank(state, i);
-    }
-    if !codes(state, i) {
-        return false;
-    }
-    let e = place_at(state, i as usize);
-    place_fits(e, n, i, above, h, clock)
-}
-
-// Whether all words of place i are 0: that is a spare place, encoded.
-fn blank(state: &[u8], i: u32) -> bool
-    requires { ⌜ i < 16 ⌝ }
-    ensures { λ r. ⌜ r ≡ placeBlank (wordIn (now (state .entry))) (6 + 9 * i) ⌝ }
+// `place_fits_in` tells whether place i, after one of period `above`, is encoded and keeps its
+// rules.
+fn place_fits_in(state: &[u32], head: Head, i: u32, above: u32) -> bool
+    requires { ⌜ (length (now state) ≡ stateSize) × (i < places) ⌝ }
+    ensures { λ r. ⌜ r ≡ placeFitsIn (now (state .entry)) head i above ⌝ }
 {
     let at = HEAD_WORDS + PLACE_WORDS * i as usize;
-    let task = word_at(state, 4 * at) as u64
-        + word_at(state, 4 * (at + 1)) as u64
-        + word_at(state, 4 * (at + 2)) as u64
-        + word_at(state, 4 * (at + 3)) as u64;
-    let job = word_at(state, 4 * (at + 4)) as u64
-        + word_at(state, 4 * (at + 5)) as u64
-        + word_at(state, 4 * (at + 6)) as u64;
-    let last = word_at(state, 4 * (at + 7)) as u64 + word_at(state, 4 * (at + 8)) as u64;
-    task + job + last == 0
-}
-
-// Whether the words of place i encode an entry: kinds 0 or 1, and zeros where a kind has no more.
-fn codes(state: &[u8], i: u32) -> bool
-    requires { ⌜ i < 16 ⌝ }
-    ensures { λ r. ⌜ r ≡ placeCodes (wordIn (now (state .entry))) (6 + 9 * i) ⌝ }
-{
-    let at = HEAD_WORDS + PLACE_WORDS * i as usize;
-    if !codes_kind(
-        word_at(state, 4 * (at + 4)),
-        word_at(state, 4 * (at + 5)),
-        word_at(state, 4 * (at + 6)),
-    ) {
+    if !place_encoded(state, at) {
         return false;
     }
-    codes_kind(
-        word_at(state, 4 * (at + 7)),
-        word_at(state, 4 * (at + 8)),
-        0,
+    place_fits(head, i, above, entry_in(state, at))
+}
+
+// `spares_blank` tells whether every word of the places after the n tasks' is 0: these are spare
+// places, encoded.
+fn spares_blank(state: &[u32], n: u32) -> bool
+    requires { ⌜ (length (now state) ≡ stateSize) × (n ≤ places) ⌝ }
+    ensures { λ r. ⌜ r ≡ sparesBlank (now (state .entry)) n ⌝ }
+{
+    let mut i: u32 = n;
+    while i < MOST_TASKS {
+        if any_word(state, HEAD_WORDS + PLACE_WORDS * i as usize) != 0 {
+            return false;
+        }
+        i += 1;
+    }
+    true
+}
+
+// `any_word` gives the words of the place at word `at` in one: 0 where all of them are.
+fn any_word(state: &[u32], at: usize) -> u32
+    requires { ⌜ Room (now state) at ⌝ }
+    ensures { λ r. ⌜ r ≡ anyWord (now (state .entry)) at ⌝ }
+{
+    state[at + LABEL_AT]
+        | state[at + WORK_AT]
+        | state[at + PERIOD_AT]
+        | state[at + RESERVED_AT]
+        | state[at + JOB_AT]
+        | state[at + RELEASE_AT]
+        | state[at + LEFT_AT]
+        | state[at + LAST_AT]
+        | state[at + TICK_AT]
+}
+
+// `place_encoded` tells whether the words of a place encode an entry: its kinds are 0 or 1, and
+// there are zeros where a kind has no more.
+fn place_encoded(state: &[u32], at: usize) -> bool
+    requires { ⌜ Room (now state) at ⌝ }
+    ensures { λ r. ⌜ r ≡ placeEncoded (now (state .entry)) at ⌝ }
+{
+    if !job_encoded(state, at) {
+        return false;
+    }
+    last_encoded(state, at)
+}
+
+fn job_encoded(state: &[u32], at: usize) -> bool
+    requires { ⌜ Room (now state) at ⌝ }
+    ensures { λ r. ⌜ r ≡ kindEncoded (wordIn (now (state .entry)) (at + jobAt)) (wordIn (now (state .entry)) (at + releaseAt)) (wordIn (now (state .entry)) (at + leftAt)) ⌝ }
+{
+    kind_encoded(
+        state[at + JOB_AT],
+        state[at + RELEASE_AT],
+        state[at + LEFT_AT],
     )
 }
 
-// Whether a kind and what it carries are written as they should be.
-fn codes_kind(kind: u32, a: u32, b: u32) -> bool
-    ensures { λ r. ⌜ r ≡ kindCodes kind a b ⌝ }
+fn last_encoded(state: &[u32], at: usize) -> bool
+    requires { ⌜ Room (now state) at ⌝ }
+    ensures { λ r. ⌜ r ≡ kindEncoded (wordIn (now (state .entry)) (at + lastAt)) (wordIn (now (state .entry)) (at + tickAt)) 0 ⌝ }
+{
+    kind_encoded(state[at + LAST_AT], state[at + TICK_AT], 0)
+}
+
+// `kind_encoded` tells whether a kind and what it carries are written as they should be.
+fn kind_encoded(kind: u32, a: u32, b: u32) -> bool
+    ensures { λ r. ⌜ r ≡ kindEncoded kind a b ⌝ }
 {
     if kind == 1 {
         return true;
     }
-    if kind != 0 {
-        return false;
-    }
-    if a != 0 {
-        return false;
-    }
-    b == 0
+    kind as u64 + a as u64 + b as u64 == 0
 }
 
-// The entry of a task by its number; number 0 reads the first place.
-fn task_at(state: &[u8], task: u32) -> Entry
+// `task_in` reads the entry of a task by its number: number 0 reads the first place, and one of no
+// place a spare one.
+fn task_in(state: &[u32], task: u32) -> Entry
+    requires { ⌜ length (now state) ≡ stateSize ⌝ }
     ensures { λ r. ⌜ r ≡ getD (entriesIn (now (state .entry))) (task - 1) noEntry ⌝ }
 {
     if task < 1 {
-        return entry_at(state, 0);
+        return entry_in(state, HEAD_WORDS);
     }
-    entry_at(state, (task - 1) as usize)
-}
-
-// The entry at place i, a spare one where there is no such place.
-fn entry_at(state: &[u8], i: usize) -> Entry
-    ensures { λ r. ⌜ r ≡ getD (entriesIn (now (state .entry))) i noEntry ⌝ }
-{
-    if PLACES <= i {
+    if MOST_TASKS < task {
         return Entry {
             task: Record {
                 label: 0,
@@ -351,22 +392,17 @@ fn entry_at(state: &[u8], i: usize) -> Entry
             last: Last::Never,
         };
     }
-    place_at(state, i)
+    entry_in(state, HEAD_WORDS + PLACE_WORDS * (task - 1) as usize)
 }
 
-// The entry at a place that there is.
-fn place_at(state: &[u8], i: usize) -> Entry
-    requires { ⌜ i < 16 ⌝ }
-    ensures { λ r. ⌜ r ≡ getD (entriesIn (now (state .entry))) i noEntry ⌝ }
+// `entry_in` reads the entry whose first word is word `at`.
+fn entry_in(state: &[u32], at: usize) -> Entry
+    requires { ⌜ Room (now state) at ⌝ }
+    ensures { λ r. ⌜ r ≡ entryFrom (now (state .entry)) at ⌝ }
 {
-    let at = HEAD_WORDS + PLACE_WORDS * i;
     let task = record_in(state, at);
-    let job = job_of(
-        word_at(state, 4 * (at + 4)),
-        word_at(state, 4 * (at + 5)),
-        word_at(state, 4 * (at + 6)),
-    );
-    let last = last_of(word_at(state, 4 * (at + 7)), word_at(state, 4 * (at + 8)));
+    let job = job_in(state, at);
+    let last = last_in(state, at);
     Entry {
         task: task,
         job: job,
@@ -374,16 +410,34 @@ fn place_at(state: &[u8], i: usize) -> Entry
     }
 }
 
-// The record whose first word has number `at`.
-fn record_in(state: &[u8], at: usize) -> Record
-    requires { ⌜ at ≤ 150 ⌝ }
-    ensures { λ r. ⌜ r ≡ recordFrom (wordIn (now (state .entry))) at ⌝ }
+fn job_in(state: &[u32], at: usize) -> Job
+    requires { ⌜ Room (now state) at ⌝ }
+    ensures { λ r. ⌜ r ≡ entryFrom (now (state .entry)) at .job ⌝ }
+{
+    job_of(
+        state[at + JOB_AT],
+        state[at + RELEASE_AT],
+        state[at + LEFT_AT],
+    )
+}
+
+fn last_in(state: &[u32], at: usize) -> Last
+    requires { ⌜ Room (now state) at ⌝ }
+    ensures { λ r. ⌜ r ≡ entryFrom (now (state .entry)) at .last ⌝ }
+{
+    last_of(state[at + LAST_AT], state[at + TICK_AT])
+}
+
+// `record_in` reads the record whose first word is word `at`.
+fn record_in(state: &[u32], at: usize) -> Record
+    requires { ⌜ Room (now state) at ⌝ }
+    ensures { λ r. ⌜ r ≡ recordFrom (now (state .entry)) at ⌝ }
 {
     Record {
-        label: word_at(state, 4 * at),
-        work: word_at(state, 4 * (at + 1)),
-        period: word_at(state, 4 * (at + 2)),
-        reserved: word_at(state, 4 * (at + 3)),
+        label: state[at + LABEL_AT],
+        work: state[at + WORK_AT],
+        period: state[at + PERIOD_AT],
+        reserved: state[at + RESERVED_AT],
     }
 }
 
@@ -410,44 +464,38 @@ fn last_of(kind: u32, tick: u32) -> Last
     }
 }
 
-fn tally_at(tally: &[u8]) -> Tally
+fn tally_in(tally: &[u32]) -> Tally
+    requires { ⌜ length (now tally) ≡ tallySize ⌝ }
     ensures { λ r. ⌜ r ≡ tallyIn (now (tally .entry)) ⌝ }
 {
     Tally {
-        run: word_at(tally, 0),
-        slot: word_at(tally, 4),
-        tail: word_at(tally, 8),
+        run: tally[RUN_AT],
+        slot: tally[SLOT_AT],
+        tail: tally[TAIL_AT],
     }
 }
 
-// What the next tick of a state that keeps its rules is.
-fn tick_at(state: &[u8]) -> Tick
-    requires { ⌜ bytesFit (now state) ≡ true ⌝ }
+// `tick_in` tells what the next tick of a state that keeps its rules is.
+fn tick_in(state: &[u32], head: Head) -> Tick
+    requires { ⌜ Headed (now state) head × (wordsFit (now state) ≡ true) ⌝ }
     ensures { λ r. ⌜ r ≡ tickOf (stateIn (now (state .entry))) ⌝ }
 {
-    let h = word_at(state, H_AT);
-    let clock = word_at(state, CLOCK_AT);
-    let since = clock % h;
-    if since < word_at(state, S_AT) {
+    if in_slot(head) {
         return Tick::Slot;
     }
-    let n = word_at(state, N_AT);
-    let i = first_ready_in(state, n, clock - since);
-    if i < n {
-        return Tick::Run(i + 1);
-    }
-    Tick::Tail
+    let i = first_ready_in(state, head.n, last_boundary(head));
+    run_or_tail(head.n, i)
 }
 
-// The first of the n tasks whose job was released at or before the boundary, or n.
-fn first_ready_in(state: &[u8], n: u32, boundary: u32) -> u32
-    requires { ⌜ n ≤ 16 ⌝ }
+// `first_ready_in` finds the first of the n tasks whose job was released at or before the boundary,
+// or gives n.
+fn first_ready_in(state: &[u32], n: u32, boundary: u32) -> u32
+    requires { ⌜ (length (now state) ≡ stateSize) × (n ≤ places) ⌝ }
     ensures { λ r. ⌜ r ≡ firstFrom (λ i. came boundary (getD (entriesIn (now (state .entry))) i noEntry .job)) n 0 ⌝ }
 {
     let mut i: u32 = 0;
     while i < n {
-        let e = place_at(state, i as usize);
-        let job = e.job;
+        let job = job_in(state, HEAD_WORDS + PLACE_WORDS * i as usize);
         if came_by(job, boundary) {
             return i;
         }
@@ -456,69 +504,76 @@ fn first_ready_in(state: &[u8], n: u32, boundary: u32) -> u32
     i
 }
 
-// The state one tick on: the clock, and the job that ran.
-fn move_on(state: &mut [u8], tick: Tick)
-    requires { ⌜ (bytesFit (now state) ≡ true) × (wordIn (now state) 5 < 1000000000) × (tick ≡ tickOf (stateIn (now state))) ⌝ }
-    ensures { λ _. ⌜ now (state .exit) ≡ stateBytes (behind (stateIn (now (state .entry))) tick) ⌝ }
+// `take` leaves the state with a task at work on a job released now.
+fn take(state: &mut [u32], head: Head, task: u32, demand: u32)
+    requires { ⌜ Headed (now state) head × (encoded (now state) ≡ true) × (1 ≤ task) × (task ≤ places) ⌝ }
+    ensures { λ _. ⌜ now (state .exit) ≡ stateWords (releasedState (stateIn (now (state .entry))) task demand) ⌝ }
 {
-    let clock = word_at(state, CLOCK_AT);
-    match tick {
-        Tick::Run(task) => {
-            let e = place_at(state, (task - 1) as usize);
-            let d = worked(e);
-            let job = d.job;
-            put_word(state, CLOCK_AT, clock + 1);
-            put_job(state, FIRST_JOB + PLACE_WORDS * (task - 1) as usize, job);
-        }
-        Tick::Slot => put_word(state, CLOCK_AT, clock + 1),
-        Tick::Tail => put_word(state, CLOCK_AT, clock + 1),
-    }
-}
-
-// The tally with the matching count one up.
-fn raise(tally: &mut [u8], tick: Tick)
-    requires { ⌜ (length (now tally) ≡ 12) × (wordIn (now tally) 0 + wordIn (now tally) 1 + wordIn (now tally) 2 < 1000000000) ⌝ }
-    ensures { λ _. ⌜ now (tally .exit) ≡ tallyBytes (raised (tallyIn (now (tally .entry))) tick) ⌝ }
-{
-    match tick {
-        Tick::Run(_) => raise_word(tally, 0),
-        Tick::Slot => raise_word(tally, 1),
-        Tick::Tail => raise_word(tally, 2),
-    }
-}
-
-// The state with a task at work on a job released now.
-fn take(state: &mut [u8], task: u32, clock: u32, demand: u32)
-    requires { ⌜ (encodes (now state) ≡ true) × (1 ≤ task) × (task ≤ 16) × (clock ≡ wordIn (now state) 5) ⌝ }
-    ensures { λ _. ⌜ now (state .exit) ≡ stateBytes (releasedState (stateIn (now (state .entry))) task demand) ⌝ }
-{
-    let at = FIRST_JOB + PLACE_WORDS * (task - 1) as usize;
-    let job = Job::Working {
-        release: clock,
-        left: demand,
+    let at = HEAD_WORDS + PLACE_WORDS * (task - 1) as usize;
+    let record = record_in(state, at);
+    let e = Entry {
+        task: record,
+        job: Job::Working {
+            release: head.clock,
+            left: demand,
+        },
+        last: Last::At(head.clock),
     };
-    put_job(state, at, job);
-    put_last(state, at + 3, Last::At(clock));
+    put_entry(state, at, e);
 }
 
-// A count of a tally, one up.
-fn raise_word(tally: &mut [u8], k: usize)
-    requires { ⌜ (k < 3) × (wordIn (now tally) k < 1000000000) ⌝ }
-    ensures { λ _. ⌜ now (tally .exit) ≡ putWord (now (tally .entry)) (4 * k) (wordIn (now (tally .entry)) k + 1) ⌝ }
+// `move_on` leaves the state one tick on: the clock, and the work of the task that ran.
+fn move_on(state: &mut [u32], head: Head, tick: Tick)
+    requires { ⌜ Headed (now state) head × (wordsFit (now state) ≡ true) × (head .clock < clockEnd) × (tick ≡ tickOf (stateIn (now state))) ⌝ }
+    ensures { λ _. ⌜ now (state .exit) ≡ stateWords (afterTick (stateIn (now (state .entry))) tick) ⌝ }
 {
-    let count = word_at(tally, 4 * k);
-    put_word(tally, 4 * k, count + 1);
+    state[CLOCK_AT] = head.clock + 1;
+    match tick {
+        Tick::Run(task) => work(state, HEAD_WORDS + PLACE_WORDS * (task - 1) as usize),
+        Tick::Slot => {}
+        Tick::Tail => {}
+    }
 }
 
-// A whole state.
-fn put_state(out: &mut [u8], s: State)
-    requires { ⌜ length (now out) ≡ 600 ⌝ }
-    ensures { λ _. ⌜ now (out .exit) ≡ stateBytes s ⌝ }
+// `work` does one unit of work at the place at word `at`.
+fn work(state: &mut [u32], at: usize)
+    requires { ⌜ Room (now state) at ⌝ }
+    ensures { λ _. ⌜ now (state .exit) ≡ puts (now (state .entry)) at 0 (entryWords (workedOf (entryFrom (now (state .entry)) at))) ⌝ }
+{
+    let e = entry_in(state, at);
+    let d = worked(e);
+    put_entry(state, at, d);
+}
+
+// `raise` leaves the tally with a count one up.
+fn raise(tally: &mut [u32], count: Count)
+    requires { ⌜ (length (now tally) ≡ tallySize) × (total (tallyIn (now tally)) < clockEnd) ⌝ }
+    ensures { λ _. ⌜ now (tally .exit) ≡ tallyWords (raised (tallyIn (now (tally .entry))) count) ⌝ }
+{
+    match count {
+        Count::Runs => raise_word(tally, RUN_AT),
+        Count::Slots => raise_word(tally, SLOT_AT),
+        Count::Tails => raise_word(tally, TAIL_AT),
+    }
+}
+
+fn raise_word(tally: &mut [u32], k: usize)
+    requires { ⌜ (k < length (now tally)) × (wordIn (now tally) k < clockEnd) ⌝ }
+    ensures { λ _. ⌜ now (tally .exit) ≡ set (now (tally .entry)) k (wordIn (now (tally .entry)) k + 1) ⌝ }
+{
+    let count = tally[k];
+    tally[k] = count + 1;
+}
+
+// `put_state` writes a whole state.
+fn put_state(out: &mut [u32], s: State)
+    requires { ⌜ length (now out) ≡ stateSize ⌝ }
+    ensures { λ _. ⌜ now (out .exit) ≡ stateWords s ⌝ }
 {
     let sleep = s.sleep;
     put_record(out, 0, sleep);
-    put_word(out, N_AT, s.n);
-    put_word(out, CLOCK_AT, s.clock);
+    out[N_AT] = s.n;
+    out[CLOCK_AT] = s.clock;
     let entries = s.entries;
     let mut i: usize = 0;
     while i < PLACES {
@@ -528,101 +583,90 @@ fn put_state(out: &mut [u8], s: State)
     }
 }
 
-// A whole verdict.
-fn put_verdict(out: &mut [u8], v: Verdict)
-    requires { ⌜ length (now out) ≡ 192 ⌝ }
-    ensures { λ _. ⌜ now (out .exit) ≡ verdictBytes v ⌝ }
+// `put_verdict` writes a whole verdict.
+fn put_verdict(out: &mut [u32], v: Verdict)
+    requires { ⌜ length (now out) ≡ verdictSize ⌝ }
+    ensures { λ _. ⌜ now (out .exit) ≡ verdictWords v ⌝ }
 {
     let windows = v.windows;
     let figures = v.figures;
     let rounds = v.rounds;
     put_sixteen(out, 0, windows);
-    put_sixteen(out, 16, figures);
-    put_sixteen(out, 32, rounds);
+    put_sixteen(out, PLACES, figures);
+    put_sixteen(out, PLACES + PLACES, rounds);
 }
 
-// Sixteen words from word k on.
-fn put_sixteen(out: &mut [u8], k: usize, words: [u32; PLACES])
-    requires { ⌜ k ≤ 150 ⌝ }
-    ensures { λ _. ⌜ now (out .exit) ≡ putWords (now (out .entry)) k (listFrom (λ i. getD words i 0) 16) ⌝ }
+// `put_sixteen` writes sixteen words from word k on.
+fn put_sixteen(out: &mut [u32], k: usize, words: [u32; PLACES])
+    requires { ⌜ k + places ≤ length (now out) ⌝ }
+    ensures { λ _. ⌜ now (out .exit) ≡ puts (now (out .entry)) k 0 (byPlace words) ⌝ }
 {
     let mut i: usize = 0;
     while i < PLACES {
         let w = words[i];
-        put_word(out, 4 * (k + i), w);
+        out[k + i] = w;
         i += 1;
     }
 }
 
-// The words of a place, from word k on.
-fn put_entry(out: &mut [u8], k: usize, e: Entry)
-    requires { ⌜ k ≤ 150 ⌝ }
-    ensures { λ _. ⌜ now (out .exit) ≡ putWords (now (out .entry)) k (entryWords e) ⌝ }
+// `put_entry` writes the words of a place, from word `at` on.
+fn put_entry(out: &mut [u32], at: usize, e: Entry)
+    requires { ⌜ Room (now out) at ⌝ }
+    ensures { λ _. ⌜ now (out .exit) ≡ puts (now (out .entry)) at 0 (entryWords e) ⌝ }
 {
     let task = e.task;
     let job = e.job;
     let last = e.last;
-    put_record(out, k, task);
-    put_job(out, k + 4, job);
-    put_last(out, k + 7, last);
+    put_record(out, at, task);
+    put_job(out, at, job);
+    put_last(out, at, last);
 }
 
-fn put_record(out: &mut [u8], k: usize, r: Record)
-    requires { ⌜ k ≤ 150 ⌝ }
-    ensures { λ _. ⌜ now (out .exit) ≡ putWords (now (out .entry)) k (recordWords r) ⌝ }
+fn put_record(out: &mut [u32], at: usize, r: Record)
+    requires { ⌜ Room (now out) at ⌝ }
+    ensures { λ _. ⌜ now (out .exit) ≡ puts (now (out .entry)) at labelAt (recordWords r) ⌝ }
 {
-    put_two(out, k, r.label, r.work);
-    put_two(out, k + 2, r.period, r.reserved);
+    out[at + LABEL_AT] = r.label;
+    out[at + WORK_AT] = r.work;
+    out[at + PERIOD_AT] = r.period;
+    out[at + RESERVED_AT] = r.reserved;
 }
 
-fn put_job(out: &mut [u8], k: usize, job: Job)
-    requires { ⌜ k ≤ 160 ⌝ }
-    ensures { λ _. ⌜ now (out .exit) ≡ putWords (now (out .entry)) k (jobWords job) ⌝ }
+// `put_job` writes the job's words of the place at word `at`.
+fn put_job(out: &mut [u32], at: usize, job: Job)
+    requires { ⌜ Room (now out) at ⌝ }
+    ensures { λ _. ⌜ now (out .exit) ≡ puts (now (out .entry)) at jobAt (jobWords job) ⌝ }
 {
     match job {
-        Job::Resting => put_three(out, k, 0, 0, 0),
-        Job::Working { release, left } => put_three(out, k, 1, release, left),
+        Job::Resting => put_job_words(out, at, 0, 0, 0),
+        Job::Working { release, left } => put_job_words(out, at, 1, release, left),
     }
 }
 
-fn put_last(out: &mut [u8], k: usize, last: Last)
-    requires { ⌜ k ≤ 160 ⌝ }
-    ensures { λ _. ⌜ now (out .exit) ≡ putWords (now (out .entry)) k (lastWords last) ⌝ }
+fn put_job_words(out: &mut [u32], at: usize, kind: u32, release: u32, left: u32)
+    requires { ⌜ Room (now out) at ⌝ }
+    ensures { λ _. ⌜ now (out .exit) ≡ puts (now (out .entry)) at jobAt (kind ∷ release ∷ left ∷ []) ⌝ }
+{
+    out[at + JOB_AT] = kind;
+    out[at + RELEASE_AT] = release;
+    out[at + LEFT_AT] = left;
+}
+
+// `put_last` writes the last release's words of the place at word `at`.
+fn put_last(out: &mut [u32], at: usize, last: Last)
+    requires { ⌜ Room (now out) at ⌝ }
+    ensures { λ _. ⌜ now (out .exit) ≡ puts (now (out .entry)) at lastAt (lastWords last) ⌝ }
 {
     match last {
-        Last::Never => put_two(out, k, 0, 0),
-        Last::At(tick) => put_two(out, k, 1, tick),
+        Last::Never => put_last_words(out, at, 0, 0),
+        Last::At(tick) => put_last_words(out, at, 1, tick),
     }
 }
 
-fn put_three(out: &mut [u8], k: usize, a: u32, b: u32, c: u32)
-    requires { ⌜ k ≤ 160 ⌝ }
-    ensures { λ _. ⌜ now (out .exit) ≡ putWords (now (out .entry)) k (a ∷ b ∷ c ∷ []) ⌝ }
+fn put_last_words(out: &mut [u32], at: usize, kind: u32, tick: u32)
+    requires { ⌜ Room (now out) at ⌝ }
+    ensures { λ _. ⌜ now (out .exit) ≡ puts (now (out .entry)) at lastAt (kind ∷ tick ∷ []) ⌝ }
 {
-    put_word(out, 4 * k, a);
-    put_two(out, k + 1, b, c);
-}
-
-fn put_two(out: &mut [u8], k: usize, a: u32, b: u32)
-    requires { ⌜ k ≤ 170 ⌝ }
-    ensures { λ _. ⌜ now (out .exit) ≡ putWords (now (out .entry)) k (a ∷ b ∷ []) ⌝ }
-{
-    put_word(out, 4 * k, a);
-    put_word(out, 4 * (k + 1), b);
-}
-
-// A word at a byte position, low byte first; nothing where its four bytes are not all there.
-fn put_word(out: &mut [u8], at: usize, w: u32)
-    ensures { λ _. ⌜ now (out .exit) ≡ putWord (now (out .entry)) at w ⌝ }
-{
-    if out.len() < 4 {
-        return;
-    }
-    if out.len() - 4 < at {
-        return;
-    }
-    out[at] = (w % 256) as u8;
-    out[at + 1] = (w / 256 % 256) as u8;
-    out[at + 2] = (w / 65536 % 256) as u8;
-    out[at + 3] = (w / 16777216 % 256) as u8;
+    out[at + LAST_AT] = kind;
+    out[at + TICK_AT] = tick;
 }

@@ -1,58 +1,58 @@
--- Document 01, "Numbers on both sides": the cases marked (P), A to I, as one table, and one statement that covers it.
--- Both sides are computed by the definitions that the contracts cite.
+-- Document 01, "Numbers on both sides", stands here: the cases marked (P), A to I, as one table, and one statement that
+-- covers it. Both sides are computed by the definitions that the contracts cite.
 use Prim.Native.Nat.{ℕ, _+_, _/_, _%_}
 use mathlib.Core.Path.{_≡_, refl}
 use mathlib.Core.List.{List, [], _∷_, _++_}
 use lib.ListN.{take}
+use Rattle.base.specs.First.{firstFrom}
+use Rattle.base.specs.Sum.{sumTo}
 use Rattle.theory.specs.Round.{ceil}
-use Rattle.theory.specs.Sum.{sumTo}
-use Rattle.theory.specs.First.{firstFrom}
-use Rattle.theory.specs.System.{ready, demand}
+use Rattle.theory.specs.Rules.{ready, demand}
 use Rattle.theory.specs.Rounds.{rounds, outcome}
 use Rattle.table.specs.declared.Refusal.the-variants.{NoWindow}
 use Rattle.table.specs.Bytes.{wordAt, recordAt}
-use Rattle.table.specs.Sound.{places, from2, from3, from4, readOf}
+use Rattle.table.specs.Sound.{places, askRecords, askOrder, askSleep, readOf}
 use Rattle.admission.specs.declared.Answer.{Answer}
 use Rattle.admission.specs.declared.Answer.the-variants.{Admitted, Refused}
-use Rattle.admission.specs.Figure.{waiting}
+use Rattle.table.specs.Times.{waiting}
 use Rattle.admission.specs.Verdicts.{verdict, walkFrom, zeros, admitOf}
 
 infixl 80 _per_
--- a record by its work and period
+-- A `Row` is a record by its work and period.
 pub data Row : Type 0 where
   _per_ : ℕ → ℕ → Row
 
--- a 32-bit number as bytes, little-endian
+-- `word` is a 32-bit number as bytes, little-endian.
 abbrev word : ℕ → List ℕ
 word n = n % 256 ∷ n / 256 % 256 ∷ n / 65536 % 256 ∷ n / 16777216 % 256 ∷ []
 
--- the bytes of a table, its records labelled upwards from a first label
+-- `bytesOf` is the bytes of a table, its records labelled upwards from a first label.
 unfoldable pub bytesOf : ℕ → List Row → List ℕ
 bytesOf label [] = []
 bytesOf label (c per t ∷ rest) = word label ++ word c ++ word t ++ word 0 ++ bytesOf (label + 1) rest
 
--- a list by task, with zeros in the places that nothing fills
+-- `padded` is a list by task, with zeros in the places that nothing fills.
 abbrev padded : List ℕ → List ℕ
 padded xs = take places (xs ++ zeros)
 
--- a set (its first label, its records, the sleep record first) with the answer it gets and the windows, figures and
--- rounds by task; or a release with the tick from which its job may run
+-- A case is a set (its first label, its records, the sleep record first) with the answer it gets and the windows,
+-- figures and rounds by task; or it is a release with the tick from which its job may run.
 pub data Case : Type 0 where
   set : ℕ → List Row → Answer → List ℕ → List ℕ → List ℕ → Case
   release : (H at from : ℕ) → Case
 
--- the case holds
+-- `Holds` says that the case holds.
 abbrev pub Holds : Case → Type 0
 Holds (set label rows answer windows figures rounds) =
     admitOf (bytesOf label rows) ≡ verdict answer (padded windows) (padded figures) (padded rounds)
 Holds (release H at from) = ready H at ≡ from
 
--- every one of them holds
+-- `Every` says that every case of a list holds.
 abbrev pub Every : List Case → Type 0
 Every [] = Unit {0}
 Every (c ∷ rest) = Holds c × Every rest
 
--- A to I
+-- These are the cases A to I.
 unfoldable pub cases : List Case
 cases =
     -- A: the house table
@@ -83,7 +83,7 @@ cases =
     ∷ release 20 21 40
     ∷ []
 
--- THE CASES HOLD
+-- THE CASES HOLD.
 pub cases-hold : Every cases
-unfolding cases bytesOf wordAt recordAt firstFrom from2 from3 from4 readOf ceil sumTo demand rounds outcome waiting walkFrom ready
+unfolding cases bytesOf wordAt recordAt firstFrom askRecords askOrder askSleep readOf ceil sumTo demand rounds outcome waiting walkFrom ready
 cases-hold = (refl, (refl, (refl, (refl, (refl, (refl, (refl, (refl, (refl, (refl, (refl, (refl, (refl, tt)))))))))))))

@@ -1,14 +1,21 @@
--- document 01's cases A to I
+-- Document 01's cases A to I hold.
 pub mod Cases
--- demand 1: what a refusal is
+-- Demand 1 says what a refusal is.
 pub mod Demand1
--- demand 2: each tick, who is admitted, and the figures and counts
+-- The answers say which refusal each call gives, and when it gives none.
+pub mod Answers
+-- Demand 2 says what each tick is, who is admitted, and which the figures and counts are.
 pub mod Demand2
--- demand 3: no job late, each figure reached, rest behind a tail tick
+-- Demand 3 says that every job finishes, that each figure is reached, that who fails is late, and that a tail tick
+-- brings rest.
 pub mod Demand3
--- a state saved in bytes and restored
+-- A state is saved in words and restored.
 pub mod Saved
--- the theorems on admission and of demand 3 used on the house table or on a refused set
+-- Numbers, answers and the order of words are held against literal numbers.
+pub mod Pinned
+-- The theorems on admission and of demand 3 are used on the house table or on a refused set.
 pub mod Uses
--- any two results that a promise allows are equal
+-- That every job finishes is used on the house table's worst pattern.
+pub mod HouseJobs
+-- Any two results that a promise allows are equal.
 pub mod Settled

@@ -1,75 +1,93 @@
--- A state that lies in bytes, for firmware: reading back what was written, calls on bytes, and a stop in between. The calls
--- of crate `node` are given by `admitOn`, `startOn`, `releaseOn`, `stepOn` and `energyOn` of its specs/Calls.antt.
-use Prim.Native.Nat.{ℕ, _+_, _*_, _/_, _%_, _^_, _<_, _≤_}
-use mathlib.Core.Path.{_≡_, sym, _∙_, ap}
+-- A state may lie in 32-bit words, for firmware: it is read back, called on and stopped in between. The calls of crate
+-- `node` are given by `admitOn`, `startOn`, `releaseOn`, `stepOn` and `energyOn` of its specs/Calls.antt.
+use Prim.Native.Nat.{ℕ, _+_, _*_, _/_, _%_, _<_, _≤_}
+use mathlib.Core.Path.{_≡_, refl, sym, _∙_, ap}
 use mathlib.Core.List.{List, _++_}
 use mathlib.Core.Bool.{true}
 use native.Mathlib.Omega.{arith}
+use lib.ListN.{length}
+use borrow.Author.Tests.{eq-eqb, eqb-true}
+use Rattle.base.proofs.FoldLaws.{folded-append}
 use Rattle.table.specs.declared.Reading.the-variants as read
-use Rattle.table.specs.Sound.{readOf}
+use Rattle.table.specs.Sound.{places, readOf}
 use Rattle.scheduler.specs.declared.State.{State}
 use Rattle.scheduler.specs.declared.Tally.{Tally}
-use Rattle.scheduler.specs.Starts.{startOf, freshState}
+use Rattle.scheduler.specs.States.{noTicks}
+use Rattle.scheduler.specs.Starts.{Given, startOf, freshState}
 use Rattle.scheduler.specs.Releases.{releaseOf}
 use Rattle.scheduler.specs.Steps.{stepOf}
-use Rattle.scheduler.specs.History.{Call, Past, after, begun, history}
-use Rattle.node.specs.Words.{Octets}
-use Rattle.node.specs.Layout.{stateBytes, tallyBytes, tallyWord, stateIn, tallyIn, encodes, countsIn, Held}
-use Rattle.node.specs.Calls.{packed, admitOn, startOn, releasedOn, releaseOn, movedOn, stepOn}
+use Rattle.scheduler.specs.History.{Call, Past, next, after, begun, history}
+use Rattle.scheduler.proofs.HistoryLaws.{kept-begun, history-kept}
+use Rattle.node.specs.Layout.{stateSize, tallySize, stateWords, tallyWords, stateIn, tallyIn, encoded, tallyEncoded}
+use Rattle.node.specs.Calls.{packed, StateLeft, admitOn, startOn, releasedOn, releaseOn, movedOn, stepOn}
 use Rattle.node.specs.Saved.{calledAll, saved, restored}
 use Rattle.node.proofs.LayoutLaws as layout
-use Rattle.node.proofs.OnLaws as on
+use Rattle.node.proofs.CallLaws as on
 use Rattle.node.proofs.SavedLaws as saving
 
--- READING BACK: a state of 16 places with 32-bit words, and a tally of such words, are read back as they were written
-pub state-read-back : (s : State) → Held s → (encodes (stateBytes s) ≡ true) × (stateIn (stateBytes s) ≡ s)
-state-read-back s H = (layout.bytes-encode s H, layout.read-back s H)
+-- READING BACK: a state of 16 places, and a tally, are read back as they were written.
+pub state-read-back : (s : State) → length (s .entries) ≡ places → (encoded (stateWords s) ≡ true) × (stateIn (stateWords s) ≡ s)
+state-read-back s whole = (layout.state-encoded s, layout.read-back s whole)
 
-pub tally-read-back : (t : Tally) → ((k : ℕ) → k < 3 → tallyWord t k < 2 ^ 32) → tallyIn (tallyBytes t) ≡ t
-tally-read-back = layout.tally-read-back
+pub tally-read-back : (t : Tally) → (tallyEncoded (tallyWords t) ≡ true) × (tallyIn (tallyWords t) ≡ t)
+tally-read-back t = (refl, refl)
 
--- and bytes that encode a state are its only ones
-pub one-encoding : (bytes : List ℕ) → encodes bytes ≡ true → Octets bytes → stateBytes (stateIn bytes) ≡ bytes
+-- Words that encode a state, or a tally, are its only ones.
+pub one-encoding : (words : List ℕ) → encoded words ≡ true → stateWords (stateIn words) ≡ words
 one-encoding = layout.written-back
 
--- EVERY CALL ON BYTES is the call on the state, and the tally, that they encode
-pub release-on-bytes : (bytes : List ℕ) (task demand : ℕ) → encodes bytes ≡ true → releaseOn bytes task demand ≡ releasedOn (releaseOf (stateIn bytes) task demand)
+pub one-tally-encoding : (words : List ℕ) → tallyEncoded words ≡ true → tallyWords (tallyIn words) ≡ words
+one-tally-encoding words e = layout.tally-written-back words (eqb-true (length words) tallySize e)
+
+-- EVERY CALL ON WORDS is the call on the state, and the tally, that they encode.
+pub release-on-words : (words : List ℕ) (task demand : ℕ) → encoded words ≡ true → releaseOn words task demand ≡ releasedOn (releaseOf (stateIn words) task demand)
 unfolding releaseOn
-release-on-bytes bytes task demand e = rw e
+release-on-words words task demand e = rw e
 
-pub step-on-bytes : (bytes tally : List ℕ) → encodes bytes ≡ true → countsIn tally ≡ true → stepOn bytes tally ≡ movedOn (stepOf (stateIn bytes) (tallyIn tally))
+pub step-on-words : (words tally : List ℕ) → encoded words ≡ true → tallyEncoded tally ≡ true → stepOn words tally ≡ movedOn (stepOf (stateIn words) (tallyIn tally))
 unfolding stepOn
-step-on-bytes bytes tally e c = rw (e, c)
+step-on-words words tally e c = rw (e, c)
 
--- A REFUSED CALL leaves every byte as it was; but for number 5, which comes back with the verdict
-pub admit-leaves-bytes : (table bytes : List ℕ) → 1 ≤ admitOn table bytes .answer % 256 → (admitOn table bytes .answer % 256 ≡ 5 → ⊥) → admitOn table bytes .verdict ≡ bytes
-admit-leaves-bytes = on.admit-leaves
+-- A REFUSED CALL leaves every word as it was, but for number 5, which comes back with the verdict.
+pub admit-leaves-words : (table words : List ℕ) → 1 ≤ admitOn table words .answer % 256 → (admitOn table words .answer % 256 ≡ 5 → ⊥) → admitOn table words .verdict ≡ words
+admit-leaves-words = on.admit-leaves
 
-pub start-leaves-bytes : (table bytes : List ℕ) → 1 ≤ startOn table bytes .answer % 256 → startOn table bytes .state ≡ bytes
-start-leaves-bytes = on.start-leaves
+pub start-leaves-words : (table words : List ℕ) → 1 ≤ startOn table words .answer % 256 → startOn table words .state ≡ words
+start-leaves-words = on.start-leaves
 
-pub release-leaves-bytes : (bytes : List ℕ) (task demand : ℕ) → Octets bytes → 1 ≤ releaseOn bytes task demand .answer % 256 → releaseOn bytes task demand .state ≡ bytes
-release-leaves-bytes = on.release-leaves
+pub release-leaves-words : (words : List ℕ) (task demand : ℕ) → 1 ≤ releaseOn words task demand .answer % 256 → releaseOn words task demand .state ≡ words
+release-leaves-words = on.release-leaves
 
-pub step-leaves-bytes : (bytes tally : List ℕ) → Octets bytes → Octets tally → 1 ≤ stepOn bytes tally .answer % 256
-    → (stepOn bytes tally .state ≡ bytes) × (stepOn bytes tally .tally ≡ tally)
-step-leaves-bytes = on.step-leaves
+pub step-leaves-words : (words tally : List ℕ) → 1 ≤ stepOn words tally .answer % 256 → (stepOn words tally .state ≡ words) × (stepOn words tally .tally ≡ tally)
+step-leaves-words = on.step-leaves
 
--- THE BYTES FOLLOW THE HISTORY: over every list of calls from an accepted start of a table of bytes, the buffers hold the
--- bytes of the history's state and tally
-pub bytes-follow : (table : List ℕ) (n : ℕ) (calls : List Call) → Octets table → readOf table ≡ read.Sound n
-    → calledAll (saved (begun (startOf table .state))) calls ≡ saved (history table calls)
-bytes-follow table n calls o e = rw e (saving.history-saved table n calls o e)
+-- THE WORDS FOLLOW THE HISTORY: over every list of calls from an accepted start, the buffers hold the words of the
+-- history's state and tally.
+pub words-follow : (g : Given) (n : ℕ) (calls : List Call) → readOf (g .table) ≡ read.Sound n
+    → calledAll (saved (begun (startOf g .state))) calls ≡ saved (history g calls)
+words-follow g n calls e = rw e (saving.calls-saved (begun (freshState g n)) calls (kept-begun g n e))
 
--- A STOP CHANGES NOTHING: a history cut in two by a save and a restore equals the uncut one
-pub stop-changes-nothing : (table : List ℕ) (n : ℕ) (before behind : List Call) → Octets table → readOf table ≡ read.Sound n
-    → after (restored (history table before)) behind ≡ history table (before ++ behind)
-stop-changes-nothing table n before behind o e =
+-- A START on a buffer of a state's length writes the words of the fresh state, whatever stood there.
+pub start-on-words : (g : Given) (n : ℕ) (words : List ℕ) → readOf (g .table) ≡ read.Sound n → length words ≡ stateSize
+    → startOn (g .table) words ≡ record { answer = 0; state = stateWords (freshState g n) }
+start-on-words g n words e long = rw (e, eq-eqb (length words) stateSize long)
+
+-- So the buffers that a start and a tally of zeros leave hold the history's words after every list of calls.
+pub words-follow-a-start : (g : Given) (n : ℕ) (words : List ℕ) (calls : List Call) → readOf (g .table) ≡ read.Sound n → length words ≡ stateSize
+    → calledAll (record { state = startOn (g .table) words .state; tally = tallyWords noTicks }) calls ≡ saved (history g calls)
+words-follow-a-start g n words calls e long =
+    ap (λ (m : StateLeft). calledAll (record { state = m .state; tally = tallyWords noTicks }) calls) (start-on-words g n words e long)
+    ∙ rw e (saving.calls-saved (begun (freshState g n)) calls (kept-begun g n e))
+
+-- A STOP CHANGES NOTHING: a history cut in two by a save and a restore equals the uncut one.
+pub stop-changes-nothing : (g : Given) (n : ℕ) (before later : List Call) → readOf (g .table) ≡ read.Sound n
+    → after (restored (history g before)) later ≡ history g (before ++ later)
+stop-changes-nothing g n before later e =
     rw e
-    (ap (λ (p : Past). after p behind) (saving.restored-same (after (begun (freshState table n)) before) (saving.history-savable table n before o e))
-    ∙ sym (saving.after-append (begun (freshState table n)) before behind))
+    (ap (λ (p : Past). after p later) (saving.restored-same (after (begun (freshState g n)) before) (history-kept g n before e .sized))
+    ∙ sym (folded-append next (begun (freshState g n)) before later))
 
--- AN ANSWER is read back by its parts: the low byte, the byte above it, and the rest
+-- AN ANSWER is read back by its parts: the low byte, the byte above it, and the rest.
 pub answer-reads-back : (number a b : ℕ) → number < 256 → a < 256 → (packed number a b % 256 ≡ number) × (packed number a b / 256 % 256 ≡ a) × (packed number a b / 65536 ≡ b)
 answer-reads-back number a b l m =
     let up : packed number a b / 256 ≡ a + 256 * b = omega arith in

@@ -1,132 +1,152 @@
--- Document 01, "How much each promise must say" (a): any two results that a promise allows are equal. The contract of
--- every public function gives its whole result by one definition, so the one law serves them all.
-use Prim.Native.Nat.{ℕ}
-use mathlib.Core.Path.{_≡_, sym, _∙_}
-use mathlib.Core.List.{List}
-use mathlib.Core.Bool.{Bool}
-use Rattle.table.specs.declared.Record.{Record}
-use Rattle.table.specs.declared.Refusal.{Refusal}
-use Rattle.table.specs.declared.Told.{Told}
-use Rattle.table.specs.declared.Reading.{Reading}
-use Rattle.table.specs.Refusals.{toldOf}
-use Rattle.table.specs.Bytes.{wordAt, recordsIn, recordAt}
-use Rattle.table.specs.Sound.{lawful, harmonized, readOf}
-use Rattle.admission.specs.declared.Verdict.{Verdict}
-use Rattle.admission.specs.Verdicts.{admitOf}
-use Rattle.scheduler.specs.declared.Job.{Job}
-use Rattle.scheduler.specs.declared.Entry.{Entry}
-use Rattle.scheduler.specs.declared.Answer.{Answer}
-use Rattle.scheduler.specs.declared.State.{State}
-use Rattle.scheduler.specs.declared.Tally.{Tally}
-use Rattle.scheduler.specs.declared.Started.{Started}
-use Rattle.scheduler.specs.declared.Released.{Released}
-use Rattle.scheduler.specs.declared.Stepped.{Stepped}
-use Rattle.scheduler.specs.declared.Moved.{Moved}
-use Rattle.scheduler.specs.declared.EnergyReading.{EnergyReading}
-use Rattle.scheduler.specs.States.{headFits, placeFits, tallyFits}
-use Rattle.scheduler.specs.Starts.{startOf}
-use Rattle.scheduler.specs.Releases.{from7, releaseOf}
-use Rattle.scheduler.specs.Steps.{came, workedOf, stepOf}
-use Rattle.scheduler.specs.Energies.{energyOf}
-use Rattle.sheet.specs.declared.Page.{Page}
-use Rattle.sheet.specs.Pages.{blank, shown}
-use Rattle.sheet.specs.Listing.{listingOf}
-use Rattle.node.specs.Calls.{admitOn, startOn, releaseOn, stepOn, energyOn}
-use Rattle.laps.specs.Laps.{lapsOn, lapped, counted}
+-- Document 01, "How much each promise must say" (a): for every input, any two results that the contract of a public
+-- function allows are equal, and so is what they leave in every lent buffer.
+-- The hypotheses are the contract itself, as the kit hands it to whoever calls the function: `Asked` is what a caller
+-- has to show, `Learnt` what it learns of the result and of the parameters at exit. So an `ensures` that is weakened or
+-- removed in src/, or a `requires` that is added there, is refused here.
+-- Every public function stands here once, in the order of its crate; `tools/settled` names one that does not.
+use mathlib.Core.Path.{_≡_, sym, _∙_, refl}
+use base.Logic.{emp}
+use contract.Lifetimes.{Lfts}
+use denote.Triple.Entry.{Args, Res}
+use denote.Triple.Clauses.{Ended, Clauses, Lasts, AtExit, atExit}
+use borrow.Fn.World.{World}
+use borrow.Fn.Claims.{AllOf}
+use borrow.Fn.Read.{all-models, no-know, r-top, r-last}
+use Rattle.table.proofs as table
+use Rattle.admission.proofs as admission
+use Rattle.scheduler.proofs as scheduler
+use Rattle.texts.proofs as texts
+use Rattle.node.proofs as node
 
--- THE LAW
-pub settled : {A : Type 0} (promised x y : A) → x ≡ promised → y ≡ promised → x ≡ y
-settled promised x y p q = p ∙ sym q
+-- A contract over a signature f has two halves: κs are its lifetimes, a its arguments, x its result, s its parameters
+-- at exit.
+module _ (f : Ended) where
+  abbrev Asks : Type 1
+  Asks = (κs : Lfts (f .signature .lifetimes)) → Args (f .signature) κs → Type 0
 
--- a result is settled where the promise is that it is this
-abbrev Settles : {A : Type 0} → A → Type 0
-Settles {A} promised = (x y : A) → x ≡ promised → y ≡ promised → x ≡ y
+  abbrev Tells : Type 1
+  Tells = (κs : Lfts (f .signature .lifetimes)) (a : Args (f .signature) κs) (x : Res (f .signature) κs) (s : AtExit f κs) → Type 0
 
--- The public functions, crate by crate: table
-read : (table : List ℕ) → Settles {A = Reading} (readOf table)
-read table = settled (readOf table)
+  -- Any arguments may be passed; and any two results x and y that a caller may learn of are equal, as are v and w, what
+  -- is left in the lent buffers with each.
+  abbrev Settles : Asks → Tells → Type 0
+  Settles Asked Learnt =
+      (κs : Lfts (f .signature .lifetimes)) (a : Args (f .signature) κs) →
+      Asked κs a × ((x y : Res (f .signature) κs) (v w : Lasts f κs a) → Learnt κs a x (atExit f κs a v) → Learnt κs a y (atExit f κs a w) → (x ≡ y) × (v ≡ w))
 
-records-in : (table : List ℕ) → Settles {A = ℕ} (recordsIn table)
-records-in table = settled (recordsIn table)
+-- THE LAW: a contract that asks nothing, and gives the result and what is left by one definition each, settles them.
+settled : {A B : Type 0} {Allowed : A → B → Type 0} {promised : A} {left : B} → ((x : A) (v : B) → Allowed x v → (x ≡ promised) × (v ≡ left)) → Unit {0} × ((x y : A) (v w : B) → Allowed x v → Allowed y w → (x ≡ y) × (v ≡ w))
+settled given = (tt, λ x y v w p q. (given x v p .0 ∙ sym (given y w q .0), given x v p .1 ∙ sym (given y w q .1)))
 
-record-at : (table : List ℕ) (k : ℕ) → Settles {A = Record} (recordAt table k)
-record-at table k = settled (recordAt table k)
+-- The public functions of crate table are settled.
+read : Settles table.read.ended table.read.Reads.Asked table.read.Reads.Learnt
+read κs a = settled (λ x v p. (p, refl))
 
-word-at : (bytes : List ℕ) (at : ℕ) → Settles {A = ℕ} (wordAt bytes at)
-word-at bytes at = settled (wordAt bytes at)
+records-in : Settles table.records_in.ended table.records_in.Reads.Asked table.records_in.Reads.Learnt
+records-in κs a = settled (λ x v p. (p, refl))
 
-keeps : (r : Record) → Settles {A = Bool} (lawful r)
-keeps r = settled (lawful r)
+record-at : Settles table.record_at.ended table.record_at.Reads.Asked table.record_at.Reads.Learnt
+record-at κs a = settled (λ x v p. (p, refl))
 
-harmonious : (sleep first : Record) → Settles {A = Bool} (harmonized sleep first)
-harmonious sleep first = settled (harmonized sleep first)
+word-at : Settles table.word_at.ended table.word_at.Reads.Asked table.word_at.Reads.Learnt
+word-at κs a = settled (λ x v p. (p, refl))
 
-tell : (refusal : Refusal) → Settles {A = Told} (toldOf refusal)
-tell refusal = settled (toldOf refusal)
+record-fits : Settles table.record_fits.ended table.record_fits.Reads.Asked table.record_fits.Reads.Learnt
+record-fits κs a = settled (λ x v p. (p, refl))
 
--- admission
-admit : (table : List ℕ) → Settles {A = Verdict} (admitOf table)
-admit table = settled (admitOf table)
+sleep-fits : Settles table.sleep_fits.ended table.sleep_fits.Reads.Asked table.sleep_fits.Reads.Learnt
+sleep-fits κs a = settled (λ x v p. (p, refl))
 
--- scheduler: the answer and the state handed back stand in one result; of `step`, which is lent the tally, the tally at
--- exit is settled beside it
-start : (table : List ℕ) → Settles {A = Started} (startOf table)
-start table = settled (startOf table)
+release-time : Settles table.release_time.ended table.release_time.Reads.Asked table.release_time.Reads.Learnt
+release-time κs a = settled (λ x v p. (p, refl))
 
-release : (s : State) (task demand : ℕ) → Settles {A = Released} (releaseOf s task demand)
-release s task demand = settled (releaseOf s task demand)
+no-window : Settles table.no_window.ended table.no_window.Reads.Asked table.no_window.Reads.Learnt
+no-window κs a = settled (λ x v p. (p, refl))
 
-step-on : (s : State) (t : Tally) → Settles {A = Moved} (stepOf s t)
-step-on s t = settled (stepOf s t)
+tell : Settles table.tell.ended table.tell.Reads.Asked table.tell.Reads.Learnt
+tell κs a = settled (λ x v p. (p, refl))
 
-step : (s : State) (t : Tally) → Settles {A = Stepped} (record { answer = stepOf s t .answer; state = stepOf s t .state }) × Settles {A = Tally} (stepOf s t .tally)
-step s t = (settled (record { answer = stepOf s t .answer; state = stepOf s t .state }), settled (stepOf s t .tally))
+-- The public function of crate admission is settled.
+admit : Settles admission.admit.ended admission.admit.Reads.Asked admission.admit.Reads.Learnt
+admit κs a = settled (λ x v p. (p, refl))
 
-energy : (t : Tally) (run sleep : ℕ) → Settles {A = EnergyReading} (energyOf t run sleep)
-energy t run sleep = settled (energyOf t run sleep)
+-- The public functions of crate scheduler are settled: the answer and the state handed back stand in one result, and
+-- `step` is lent the tally besides.
+start : Settles scheduler.start.ended scheduler.start.Reads.Asked scheduler.start.Reads.Learnt
+start κs a = settled (λ x v p. (p, refl))
 
--- the parts of a state's rules and of a release, for a state that is laid out elsewhere
-head-fits : (sleep first : Record) (n clock : ℕ) → Settles {A = Bool} (headFits sleep first n clock)
-head-fits sleep first n clock = settled (headFits sleep first n clock)
+release : Settles scheduler.release.ended scheduler.release.Reads.Asked scheduler.release.Reads.Learnt
+release κs a = settled (λ x v p. (p, refl))
 
-place-fits : (e : Entry) (n i above h clock : ℕ) → Settles {A = Bool} (placeFits n i above h clock e)
-place-fits e n i above h clock = settled (placeFits n i above h clock e)
+-- `step` is walked by hand, since it is lent a struct, and the kit then exports its clauses and no reading of them.
+-- They are read here, by the lemmas with which the kit reads the others.
+abbrev step-clauses : (m : World) → Clauses (m .𝓤) scheduler.step.ended
+step-clauses m = scheduler.step.clauses (m .𝓤) (m .H) (m .𝓖 .A) (m .𝓜 .mem) (m .𝓡 .run)
 
-counts : (t : Tally) (clock : ℕ) → Settles {A = Bool} (tallyFits t clock)
-counts t clock = settled (tallyFits t clock)
+abbrev step-asked : Asks scheduler.step.ended
+step-asked κs a = AllOf (all-models {Base = λ m. emp (m .𝓤)} {Know = no-know} (λ m. step-clauses m κs a .requires tt) (λ m. r-top) (λ m. refl) (λ m. refl) (λ m. refl) .owes)
 
-may-come : (e : Entry) (n h clock task demand : ℕ) → Settles {A = Answer} (from7 n h clock e task demand)
-may-come e n h clock task demand = settled (from7 n h clock e task demand)
+abbrev step-learnt : Tells scheduler.step.ended
+step-learnt κs a x s = AllOf (all-models {Base = λ m. emp (m .𝓤)} {Know = no-know} (λ m. step-clauses m κs a .ensures tt x s) (λ m. r-last _) (λ m. refl) (λ m. refl) (λ m. refl) .tells)
 
-came-by : (job : Job) (tick : ℕ) → Settles {A = Bool} (came tick job)
-came-by job tick = settled (came tick job)
+step : Settles scheduler.step.ended step-asked step-learnt
+step κs a = settled (λ x v p. (p .0, λ i. (tt, (p .1 i, tt))))
 
-worked : (e : Entry) → Settles {A = Entry} (workedOf e)
-worked e = settled (workedOf e)
+step-on : Settles scheduler.step_on.ended scheduler.step_on.Reads.Asked scheduler.step_on.Reads.Learnt
+step-on κs a = settled (λ x v p. (p, refl))
 
--- sheet
-listing : (table : List ℕ) → Settles {A = Page} (shown blank (listingOf table))
-listing table = settled (shown blank (listingOf table))
+energy : Settles scheduler.energy.ended scheduler.energy.Reads.Asked scheduler.energy.Reads.Learnt
+energy κs a = settled (λ x v p. (p, refl))
 
--- node: the answer, and each buffer that was lent to be written, at exit
-node-admit : (table verdict : List ℕ) → Settles {A = ℕ} (admitOn table verdict .answer) × Settles {A = List ℕ} (admitOn table verdict .verdict)
-node-admit table verdict = (settled (admitOn table verdict .answer), settled (admitOn table verdict .verdict))
+head-fits : Settles scheduler.head_fits.ended scheduler.head_fits.Reads.Asked scheduler.head_fits.Reads.Learnt
+head-fits κs a = settled (λ x v p. (p, refl))
 
-node-start : (table state : List ℕ) → Settles {A = ℕ} (startOn table state .answer) × Settles {A = List ℕ} (startOn table state .state)
-node-start table state = (settled (startOn table state .answer), settled (startOn table state .state))
+place-fits : Settles scheduler.place_fits.ended scheduler.place_fits.Reads.Asked scheduler.place_fits.Reads.Learnt
+place-fits κs a = settled (λ x v p. (p, refl))
 
-node-release : (state : List ℕ) (task demand : ℕ) → Settles {A = ℕ} (releaseOn state task demand .answer) × Settles {A = List ℕ} (releaseOn state task demand .state)
-node-release state task demand = (settled (releaseOn state task demand .answer), settled (releaseOn state task demand .state))
+tally-fits : Settles scheduler.tally_fits.ended scheduler.tally_fits.Reads.Asked scheduler.tally_fits.Reads.Learnt
+tally-fits κs a = settled (λ x v p. (p, refl))
 
-node-step : (state tally : List ℕ) → Settles {A = ℕ} (stepOn state tally .answer) × Settles {A = List ℕ} (stepOn state tally .state) × Settles {A = List ℕ} (stepOn state tally .tally)
-node-step state tally = (settled (stepOn state tally .answer), settled (stepOn state tally .state), settled (stepOn state tally .tally))
+may-release : Settles scheduler.may_release.ended scheduler.may_release.Reads.Asked scheduler.may_release.Reads.Learnt
+may-release κs a = settled (λ x v p. (p, refl))
 
-node-energy : (tally : List ℕ) (run sleep : ℕ) → Settles {A = ℕ} (energyOn tally run sleep)
-node-energy tally run sleep = settled (energyOn tally run sleep)
+may-step : Settles scheduler.may_step.ended scheduler.may_step.Reads.Asked scheduler.may_step.Reads.Learnt
+may-step κs a = settled (λ x v p. (p, refl))
 
--- laps
-laps-on : (state tally : List ℕ) (count : ℕ) → Settles {A = ℕ} (lapsOn state tally count .answer) × Settles {A = List ℕ} (lapsOn state tally count .state) × Settles {A = List ℕ} (lapsOn state tally count .tally)
-laps-on state tally count = (settled (lapsOn state tally count .answer), settled (lapsOn state tally count .state), settled (lapsOn state tally count .tally))
+in-slot : Settles scheduler.«in_slot».ended scheduler.«in_slot».Reads.Asked scheduler.«in_slot».Reads.Learnt
+in-slot κs a = settled (λ x v p. (p, refl))
 
-laps-by-value : (table : List ℕ) (count : ℕ) → Settles {A = ℕ} (counted (lapped (startOf table .state) count))
-laps-by-value table count = settled (counted (lapped (startOf table .state) count))
+last-boundary : Settles scheduler.last_boundary.ended scheduler.last_boundary.Reads.Asked scheduler.last_boundary.Reads.Learnt
+last-boundary κs a = settled (λ x v p. (p, refl))
+
+run-or-tail : Settles scheduler.run_or_tail.ended scheduler.run_or_tail.Reads.Asked scheduler.run_or_tail.Reads.Learnt
+run-or-tail κs a = settled (λ x v p. (p, refl))
+
+count-of : Settles scheduler.count_of.ended scheduler.count_of.Reads.Asked scheduler.count_of.Reads.Learnt
+count-of κs a = settled (λ x v p. (p, refl))
+
+came-by : Settles scheduler.came_by.ended scheduler.came_by.Reads.Asked scheduler.came_by.Reads.Learnt
+came-by κs a = settled (λ x v p. (p, refl))
+
+worked : Settles scheduler.worked.ended scheduler.worked.Reads.Asked scheduler.worked.Reads.Learnt
+worked κs a = settled (λ x v p. (p, refl))
+
+-- The public function of crate texts is settled.
+listing : Settles texts.listing.ended texts.listing.Reads.Asked texts.listing.Reads.Learnt
+listing κs a = settled (λ x v p. (p, refl))
+
+-- The public functions of crate node are settled: the answer, and what is left in each lent buffer.
+node-admit : Settles node.node_admit.ended node.node_admit.Reads.Asked node.node_admit.Reads.Learnt
+node-admit κs a = settled (λ x v p. (p .0, λ i. (tt, (p .1 i, tt))))
+
+node-start : Settles node.node_start.ended node.node_start.Reads.Asked node.node_start.Reads.Learnt
+node-start κs a = settled (λ x v p. (p .0, λ i. (tt, (p .1 i, tt))))
+
+node-release : Settles node.node_release.ended node.node_release.Reads.Asked node.node_release.Reads.Learnt
+node-release κs a = settled (λ x v p. (p .0, λ i. (p .1 i, (tt, (tt, tt)))))
+
+node-step : Settles node.node_step.ended node.node_step.Reads.Asked node.node_step.Reads.Learnt
+node-step κs a = settled (λ x v p. (p .0, λ i. (p .1 i, (p .2 i, tt))))
+
+node-energy : Settles node.node_energy.ended node.node_energy.Reads.Asked node.node_energy.Reads.Learnt
+node-energy κs a = settled (λ x v p. (p, refl))

@@ -1,6 +1,6 @@
-// The worst pattern for 2,000 ticks on most of document 01's sets and on three tasks that tell k times
-// H from w: each task's figure and largest response.
-// On a set that is refused with 5 the pattern is given to the tasks up to the failing one.
+// The worst pattern runs for 2,000 ticks on most of document 01's sets and on three tasks that tell
+// k times H from w: each task's figure and largest response are written. On a set that is refused
+// with 5 the pattern is given to the tasks up to the failing one.
 use admission::Answer;
 use admission::admit;
 use scheduler::Job;
@@ -56,8 +56,8 @@ fn main() {
     show(b"H: 1 in 5\n", &ONE_IN_5);
 }
 
-// A line for each task that follows the pattern: number, figure (0 for the failing one), largest
-// response, and whether one was longer than its period.
+// A line is written for each task that follows the pattern: number, figure (0 for the failing one),
+// largest response, and whether one was longer than its period.
 fn show(name: &[u8], table: &[u8]) {
     io::write_all(1, name);
     let verdict = admit(table);
@@ -89,7 +89,8 @@ fn lined(task: u32, figure: u32, most: u32, period: u32) {
     }
 }
 
-// The tasks that follow the pattern: all of an admitted set, those up to the failing one under 5.
+// The tasks that follow the pattern are all of an admitted set, and those up to the failing one
+// under 5.
 fn followers(answer: Answer) -> u32 {
     match answer {
         Answer::Admitted { tasks } => tasks,
@@ -100,7 +101,7 @@ fn followers(answer: Answer) -> u32 {
     }
 }
 
-// The largest response of each task in 2,000 ticks.
+// The result is the largest response of each task in 2,000 ticks.
 fn largest(s: State, count: u32) -> [u32; 16] {
     let mut most = [0u32; 16];
     let mut state = s;
@@ -125,7 +126,7 @@ fn largest(s: State, count: u32) -> [u32; 16] {
     most
 }
 
-// The response of the job that a tick finished, where it is the largest yet.
+// The response of the job that a tick finished is noted where it is the largest yet.
 fn longer(most: [u32; 16], before: State, answer: Ticked) -> [u32; 16] {
     match answer {
         Ticked::Refused(_) => most,
@@ -164,7 +165,7 @@ fn response(most: [u32; 16], before: State, k: u32) -> [u32; 16] {
     }
 }
 
-// A finish is stamped with the clock behind its tick.
+// A finish is stamped with the clock after its tick.
 fn since(clock: u32, release: u32) -> u32 {
     if clock < release {
         return 0;
@@ -175,7 +176,7 @@ fn since(clock: u32, release: u32) -> u32 {
     clock - release + 1
 }
 
-// The releases of the worst pattern that are due at t, of the first so many tasks.
+// The releases of the worst pattern that are due at t, of the first so many tasks, are made.
 fn given(s: State, t: u32, count: u32) -> State {
     let sleep = s.sleep;
     let mut state = s;

@@ -1,14 +1,26 @@
--- tests that hold of every place
-pub mod EveryLaws
--- the test of a state's rules says what the rules are
+-- `StateLaws` proves that the test of a state's rules says what the rules are.
 pub mod StateLaws
--- which job may run at a tick
+-- `ReadyLaws` proves which job may run at a tick.
 pub mod ReadyLaws
--- what a release that is accepted says
+-- `PlaceLaws` is about states that differ in one place, and when they keep the rules.
+pub mod PlaceLaws
+-- `ReleaseLaws` proves what an accepted release found, and what it does.
 pub mod ReleaseLaws
--- what the calls do to each place of a state, and that they keep its rules
-pub mod CallLaws
--- what every history keeps
+-- `TickLaws` proves what a tick is, and that the state after it keeps the rules.
+pub mod TickLaws
+-- `MayRunLaws` proves the tick in words.
+pub mod MayRunLaws
+-- `StepLaws` proves that a step makes its tick or moves nothing.
+pub mod StepLaws
+-- `StartLaws` proves that a fresh state keeps the rules.
+pub mod StartLaws
+-- `HistoryLaws` proves what every history keeps.
 pub mod HistoryLaws
--- the numbers that each call can give
-pub mod NumberLaws
+-- `JobLaws` proves that every accepted release is followed to its finish.
+pub mod JobLaws
+-- `TakenLaws` proves that every job comes from an accepted release.
+pub mod TakenLaws
+-- `RefusalLaws` proves which refusals each call can give.
+pub mod RefusalLaws
+-- `AnswerLaws` proves that an answer is the lowest-numbered refusal that applies.
+pub mod AnswerLaws

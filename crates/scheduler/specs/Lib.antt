@@ -1,16 +1,24 @@
--- the rules of a state and of a tally
+-- `States` defines the rules of a state and of a tally.
 pub mod States
--- the same rules as facts
+-- `Lawful` gives the rules of a state as facts.
 pub mod Lawful
--- start
+-- `Starts` defines a start.
 pub mod Starts
--- release
+-- `Fresh` gives, as facts, what an accepted start hands back.
+pub mod Fresh
+-- `Releases` defines a release.
 pub mod Releases
--- one tick
+-- `Steps` defines one tick.
 pub mod Steps
--- the energy of a tally
+-- `Applies` says, as facts, when each refusal applies.
+pub mod Applies
+-- `MayRun` says, as facts, which task runs.
+pub mod MayRun
+-- `Energies` defines the energy of a tally.
 pub mod Energies
--- lists of calls and what they make of a start
+-- `History` defines lists of calls and what they make of a start.
 pub mod History
--- the worst pattern as a list of calls
+-- `Jobs` says where the job of an accepted release stands.
+pub mod Jobs
+-- `Pattern` gives the worst pattern as a list of calls.
 pub mod Pattern

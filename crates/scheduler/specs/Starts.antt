@@ -1,4 +1,4 @@
--- Document 01: what a start hands back.
+-- This file defines what a start hands back, as document 01 says it.
 use Prim.Native.Nat.{ℕ}
 use mathlib.Core.List.{List}
 use lib.ListN.{replicate}
@@ -11,19 +11,23 @@ use Rattle.scheduler.specs.declared.Answer.the-variants.{Accepted, Refus
 use Rattle.scheduler.specs.declared.Started.{Started}
 use Rattle.scheduler.specs.States.{noEntry, entriesOf}
 
--- the table, clock 0, and every task resting with the mark "never"
-abbrev pub freshState : List ℕ → ℕ → State
-freshState table n = record { sleep = recordAt table 0; n = n; clock = 0; entries = entriesOf table n }
+-- WHAT A START IS GIVEN: it is the bytes of a table.
+pub record Given : Type 0 where
+  pub table : List ℕ
 
--- no tasks, clock 0, a sleep record of zeros and only spare places
+-- A fresh state holds the table, clock 0, and every task resting with the mark "never".
+abbrev pub freshState : Given → ℕ → State
+freshState g n = record { sleep = recordAt (g .table) 0; n = n; clock = 0; entries = entriesOf (g .table) n }
+
+-- `noState` has no tasks, clock 0, a sleep record of zeros and only spare places.
 abbrev pub noState : State
 noState = record { sleep = noRecord; n = 0; clock = 0; entries = replicate places noEntry }
 
--- what a reading makes of the start
-abbrev pub startedFrom : List ℕ → Reading → Started
-startedFrom table (read.Sound n) = record { answer = Accepted; state = freshState table n }
-startedFrom table (read.Refused refusal) = record { answer = Refused refusal; state = noState }
+-- `startedFrom` is what a reading of the table makes of the start.
+abbrev pub startedFrom : Given → Reading → Started
+startedFrom g (read.Sound n) = record { answer = Accepted; state = freshState g n }
+startedFrom g (read.Refused refusal) = record { answer = Refused refusal; state = noState }
 
--- A START on any bytes
-abbrev pub startOf : List ℕ → Started
-startOf table = startedFrom table (readOf table)
+-- A START is defined on anything that it is given.
+abbrev pub startOf : Given → Started
+startOf g = startedFrom g (readOf (g .table))

@@ -1,15 +1,16 @@
-// A task table: records of 16 bytes in the caller's own bytes, read where they stand and never
+// A task table is records of 16 bytes in the caller's own bytes, read where they stand and never
 // copied. What the bytes hold is said by specs/Bytes.antt, when a table is sound and which refusal
-// it gets otherwise by specs/Sound.antt, and what a refusal comes back with by specs/Refusals.antt.
+// it gets otherwise by specs/Sound.antt, when a task may be released by specs/Times.antt, and what
+// a refusal comes back with and which call gives it by specs/Refusals.antt.
 ghost use mathlib.Core.Path.{_≡_};
 ghost use Prim.Native.Nat.{_<_, _≤_, _/_};
-ghost use lib.ListN.{length};
-ghost use Rattle.table.specs.Refusals.{toldOf};
+ghost use Rattle.table.specs.Refusals.{searchGives, toldOf};
 ghost use Rattle.table.specs.Bytes.{wordAt, recordAt, recordsIn};
-ghost use Rattle.table.specs.Sound.{lawful, harmonized, firstBroken, firstFalling, readOf};
+ghost use Rattle.table.specs.Sound.{recordFits, sleepFits, firstBroken, firstFalling, readOf};
 ghost use Rattle.table.specs.Times.{releaseTime};
 
-// The bytes of a record, the places for tasks (a table has no more tasks), and the largest period.
+// These are the bytes of a record, the places for tasks (a table has no more tasks), and the
+// largest period.
 pub const RECORD_BYTES: usize = 16;
 
 pub const PLACES: usize = 16;
@@ -18,7 +19,8 @@ pub const MOST_TASKS: u32 = 16;
 
 pub const LARGEST: u32 = 60000;
 
-// One record. In record 0 the work is the sleep time S and the period the harmonizing period H.
+// This is one record. In record 0 the work is the sleep time S and the period the harmonizing
+// period H.
 pub struct Record {
     pub label: u32,
     pub work: u32,
@@ -26,14 +28,14 @@ pub struct Record {
     pub reserved: u32,
 }
 
-// What is turned away, in the order of document 01's numbers 1 to 13.
+// These refusals are what is turned away, in the order of document 01's numbers 1 to 13.
 pub enum Refusal {
     Length,
     Broken { record: u32 },
     Falling { record: u32 },
     Sleep,
     NoWindow { task: u32, rounds: u32 },
-    Rules,
+    Unfit,
     ClockEnd,
     NoTask,
     Demand,
@@ -43,21 +45,21 @@ pub enum Refusal {
     Power,
 }
 
-// A refusal as document 01 gives it: its number, the record or task that comes back with it, and
-// the rounds spent; what it does not come back with is 0.
+// This is a refusal as document 01 gives it: its number, the record or task that comes back with
+// it, and the rounds spent; what it does not come back with is 0.
 pub struct Told {
     pub number: u32,
     pub place: u32,
     pub rounds: u32,
 }
 
-// A table's reading: the number of its tasks, or the lowest of refusals 1 to 4 that applies.
+// A table's reading is the number of its tasks, or the lowest of refusals 1 to 4 that applies.
 pub enum Reading {
     Sound { tasks: u32 },
     Refused(Refusal),
 }
 
-// The reading of any bytes.
+// `read` gives the reading of any bytes.
 pub fn read(table: &[u8]) -> Reading
     ensures { λ r. ⌜ r ≡ readOf (now (table .entry)) ⌝ }
 {
@@ -86,7 +88,7 @@ pub fn read(table: &[u8]) -> Reading
     }
     let sleep = record_at(table, 0);
     let first = record_at(table, 1);
-    if harmonious(sleep, first) {
+    if sleep_fits(sleep, first) {
         Reading::Sound {
             tasks: (count - 1) as u32,
         }
@@ -95,14 +97,14 @@ pub fn read(table: &[u8]) -> Reading
     }
 }
 
-// How many whole records the bytes hold.
+// `records_in` tells how many whole records the bytes hold.
 pub fn records_in(table: &[u8]) -> usize
     ensures { λ r. ⌜ r ≡ recordsIn (now (table .entry)) ⌝ }
 {
     table.len() / RECORD_BYTES
 }
 
-// Record k, or a record of zeros where the bytes hold no whole record k.
+// `record_at` gives record k, or a record of zeros where the bytes hold no whole record k.
 pub fn record_at(table: &[u8], k: usize) -> Record
     ensures { λ r. ⌜ r ≡ recordAt (now (table .entry)) k ⌝ }
 {
@@ -123,7 +125,8 @@ pub fn record_at(table: &[u8], k: usize) -> Record
     }
 }
 
-// The 32-bit number at a byte position, little-endian, or 0 where not all four bytes are there.
+// `word_at` gives the 32-bit number at a byte position, little-endian, or 0 where not all four
+// bytes are there.
 pub fn word_at(bytes: &[u8], at: usize) -> u32
     ensures { λ r. ⌜ r ≡ wordAt (now (bytes .entry)) at ⌝ }
 {
@@ -139,9 +142,9 @@ pub fn word_at(bytes: &[u8], at: usize) -> u32
         + 16777216 * wide(bytes[at + 3])
 }
 
-// Whether a record keeps the rule of C, T and the reserved field (number 2).
-pub fn keeps(r: Record) -> bool
-    ensures { λ b. ⌜ b ≡ lawful r ⌝ }
+// `record_fits` tells whether a record keeps the rule of C, T and the reserved field (number 2).
+pub fn record_fits(r: Record) -> bool
+    ensures { λ b. ⌜ b ≡ recordFits r ⌝ }
 {
     if r.work < 1 {
         return false;
@@ -155,11 +158,12 @@ pub fn keeps(r: Record) -> bool
     r.reserved == 0
 }
 
-// Whether S is below H and the first task's period a multiple of H (number 4).
-pub fn harmonious(sleep: Record, first: Record) -> bool
-    ensures { λ b. ⌜ b ≡ harmonized sleep first ⌝ }
+// `sleep_fits` tells whether S is below H and the first task's period is a multiple of H (number
+// 4).
+pub fn sleep_fits(sleep: Record, first: Record) -> bool
+    ensures { λ b. ⌜ b ≡ sleepFits sleep first ⌝ }
 {
-    // S below H, so H is not 0 where it divides.
+    // S is below H here, so H is not 0 where it divides.
     if sleep.work < sleep.period {
         first.period % sleep.period == 0
     } else {
@@ -167,8 +171,8 @@ pub fn harmonious(sleep: Record, first: Record) -> bool
     }
 }
 
-// Whether the task at place i, from 0, may be released at a tick: the first task at multiples of h
-// alone, any other at every tick.
+// `release_time` tells whether the task at place i, from 0, may be released at a tick: the first
+// task may at multiples of h alone, any other at every tick.
 pub fn release_time(h: u32, i: u32, tick: u32) -> bool
     ensures { λ r. ⌜ r ≡ releaseTime h i tick ⌝ }
 {
@@ -182,7 +186,18 @@ pub fn release_time(h: u32, i: u32, tick: u32) -> bool
     tick % h == 0
 }
 
-// A refusal's number and what comes back with it.
+// `no_window` tells whether a refusal is that of the search for windows: its table is sound, and
+// the tasks before the one that it names have their windows.
+pub fn no_window(refusal: Refusal) -> bool
+    ensures { λ r. ⌜ r ≡ searchGives refusal ⌝ }
+{
+    match refusal {
+        Refusal::NoWindow { task: _, rounds: _ } => true,
+        _ => false,
+    }
+}
+
+// `tell` gives a refusal's number and what comes back with it.
 pub fn tell(refusal: Refusal) -> Told
     ensures { λ r. ⌜ r ≡ toldOf refusal ⌝ }
 {
@@ -196,7 +211,7 @@ pub fn tell(refusal: Refusal) -> Told
             place: task,
             rounds: rounds,
         },
-        Refusal::Rules => placed(6, 0),
+        Refusal::Unfit => placed(6, 0),
         Refusal::ClockEnd => placed(7, 0),
         Refusal::NoTask => placed(8, 0),
         Refusal::Demand => placed(9, 0),
@@ -217,14 +232,14 @@ fn placed(number: u32, place: u32) -> Told
     }
 }
 
-// The first record that breaks its rule, or count.
+// `first_broken` gives the first record that breaks its rule, or count.
 fn first_broken(table: &[u8], count: usize) -> usize
     ensures { λ r. ⌜ r ≡ firstBroken (recordAt (now (table .entry))) count ⌝ }
 {
     let mut k: usize = 0;
     while k < count {
         let r = record_at(table, k);
-        if !keeps(r) {
+        if !record_fits(r) {
             return k;
         }
         k += 1;
@@ -232,7 +247,8 @@ fn first_broken(table: &[u8], count: usize) -> usize
     k
 }
 
-// The first record from 2 on whose period is below that of the one before, or count.
+// `first_falling` gives the first record from 2 on whose period is below that of the one before, or
+// count.
 fn first_falling(table: &[u8], count: usize) -> usize
     requires { ⌜ 2 ≤ count ⌝ }
     ensures { λ r. ⌜ r ≡ firstFalling (recordAt (now (table .entry))) count ⌝ }

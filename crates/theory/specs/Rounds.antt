@@ -1,24 +1,24 @@
--- Document 01's rounds as they are computed, and what their outcome says: a window is the least, or none is within the
--- limit, and the rounds counted are the replacements done.
-use Prim.Native.Nat.{ℕ, zero, suc, _+_, _-_, _≤_, _<_}
-use mathlib.Core.Path.{_≡_, refl, sym, _∙_, ap}
+-- These are document 01's rounds as they are computed, and what their outcome says: a window is the least, or none is
+-- within the limit, and the rounds counted are the replacements done.
+use Prim.Native.Nat.{ℕ, zero, suc, _+_, _≤_, _<_}
+use mathlib.Core.Path.{_≡_}
 use mathlib.Core.Logic.{_≢_}
-use mathlib.Core.Bool.{Bool, true, false, cond}
-use native.Mathlib.Omega.{arith}
-use native.Mathlib.Numerals.{add-one}
+use mathlib.Core.Bool.{cond}
 use lib.Dec.{leb, eqb}
-use borrow.Author.Tests.{leb-true, leb-false, eqb-true, eqb-false, le-leb, lt-leb, eq-eqb, ne-eqb}
-use Rattle.theory.specs.Split.{by-eq}
-use Rattle.theory.specs.System.{Rules, Sound, demand}
-use Rattle.theory.specs.Window.{value, value-least, value-none, value-rises, value-some}
+use Rattle.theory.specs.Rules.{Rules, demand}
 
--- how the rounds of a task end: with a window, or without one; each with the rounds done
+-- `value` is the value after n rounds.
+unfoldable pub value : Rules → ℕ → ℕ → ℕ
+value R i zero = R .C i + R .S
+value R i (suc n) = demand R i (value R i n)
+
+-- The rounds of a task end with a window and the rounds done, or without a window and with the rounds done.
 pub data Outcome : Type 0 where
   found : ℕ → ℕ → Outcome
   none : ℕ → Outcome
 
--- the rounds from the value w on, n of them done: while the value is at most the limit, a round replaces it by its
--- demand; a round that changes nothing ends with that value, a value above the limit without a window
+-- The rounds go on from the value w, n of them done: while the value is at most the limit, a round replaces it by its
+-- demand. A round that changes nothing ends with that value, a value above the limit without a window.
 unfoldable pub rounds : (ℕ → ℕ) → ℕ → ℕ → ℕ → ℕ → Outcome
 rounds demanded limit zero n w = none n
 rounds demanded limit (suc most) n w =
@@ -26,33 +26,12 @@ rounds demanded limit (suc most) n w =
     (cond (eqb (demanded w) w) (found w (n + 1)) (rounds demanded limit most (n + 1) (demanded w)))
     (none n)
 
--- the outcome of the search for task i's window: begin with C + S. The value rises in every round but the last, so that limit + 1
+-- The search for task i's window begins with C + S. The value rises in every round but the last, so that limit + 1
 -- rounds are always enough (`outcome-says` shows that they never run out).
 unfoldable pub outcome : Rules → ℕ → ℕ → Outcome
 outcome R i limit = rounds (demand R i) limit (limit + 1) 0 (R .C i + R .S)
 
--- The three ways on from a value, with the rounds left as a number
-pub rounds-none : (f : ℕ → ℕ) (limit most n w : ℕ) → limit < w → rounds f limit most n w ≡ none n
-unfolding rounds
-rounds-none f limit zero n w h = refl
-rounds-none f limit (suc most) n w h = rw (lt-leb w limit h)
-
--- a round that changes nothing
-pub rounds-found : (f : ℕ → ℕ) (limit most n w : ℕ) → 1 ≤ most → w ≤ limit → f w ≡ w → rounds f limit most n w ≡ found w (n + 1)
-unfolding rounds
-rounds-found f limit zero n w p h e = absurd (let z : ⊥ = omega arith in z)
-rounds-found f limit (suc most) n w p h e = rw (le-leb w limit h, eq-eqb (f w) w e)
-
--- a round that changes the value
-pub rounds-go : (f : ℕ → ℕ) (limit most n w : ℕ) → 1 ≤ most → w ≤ limit → f w ≢ w
-    → rounds f limit most n w ≡ rounds f limit (most - 1) (n + 1) (f w)
-unfolding rounds
-rounds-go f limit zero n w p h d = absurd (let z : ⊥ = omega arith in z)
-rounds-go f limit (suc most) n w p h d =
-    let e : suc most - 1 ≡ most = omega arith in
-    rw (le-leb w limit h, ne-eqb (f w) w d, e)
-
--- n replacements, the last of which changed nothing, end at w
+-- The search succeeded: n replacements, of which only the last changed nothing, end at w.
 pub record Found (R : Rules) (i limit w n : ℕ) : Type 0 where
   pub last : ℕ
   pub counted : n ≡ suc last
@@ -61,79 +40,20 @@ pub record Found (R : Rules) (i limit w n : ℕ) : Type 0 where
   pub changed : (k : ℕ) → k < last → value R i (suc k) ≢ value R i k
   pub within : w ≤ limit
 
--- n replacements, each of which changed the value, end above the limit
-pub record Passed (R : Rules) (i limit n : ℕ) : Type 0 where
+-- The search failed: n replacements, each of which changed the value, end above the limit.
+pub record Overrun (R : Rules) (i limit n : ℕ) : Type 0 where
   pub above : limit < value R i n
   pub changed : (k : ℕ) → k < n → value R i (suc k) ≢ value R i k
   pub within : (k : ℕ) → k < n → value R i k ≤ limit
 
--- what an outcome says
+-- An outcome with a window says that the search succeeded, one without that it failed.
 abbrev pub Says : Rules → ℕ → ℕ → Outcome → Type 0
 Says R i limit (found w n) = Found R i limit w n
-Says R i limit (none n) = Passed R i limit n
+Says R i limit (none n) = Overrun R i limit n
 
--- from every value that n rounds reach
-rounds-says : (R : Rules) (i limit most n w : ℕ) → Sound R → value R i n ≡ w → limit < most + w
-    → ((k : ℕ) → k < n → value R i (suc k) ≢ value R i k) → ((k : ℕ) → k < n → value R i k ≤ limit)
-    → Says R i limit (rounds (demand R i) limit most n w)
-unfolding rounds value
-rounds-says R i limit zero n w ok at enough changed within = record { above = omega arith; changed = changed; within = within }
-rounds-says R i limit (suc most) n w ok at enough changed within =
-    by-limit (leb w limit) refl (λ le differs.
-    rounds-says R i limit most (n + 1) (demand R i w) ok (rw add-one next)
-    (let rise : value R i n ≤ value R i (suc n) = value-rises R i n ok in omega (arith, next))
-    (λ k l. by-eq k n (value R i (suc k) ≢ value R i k)
-    (λ q. rw q (λ s. differs (sym next ∙ s ∙ at)))
-    (λ d. changed k (omega arith)))
-    (λ k l. by-eq k n (value R i k ≤ limit) (λ q. rw q (omega arith)) (λ d. within k (omega arith))))
-  where
-    next : value R i (suc n) ≡ demand R i w
-    next = ap (demand R i) at
-
-    by-value : w ≤ limit → (b : Bool) → eqb (demand R i w) w ≡ b
-        → (demand R i w ≢ w → Says R i limit (rounds (demand R i) limit most (n + 1) (demand R i w)))
-        → Says R i limit (cond b (found w (n + 1)) (rounds (demand R i) limit most (n + 1) (demand R i w)))
-    by-value le true e go = record {
-      last = n;
-      counted = add-one n;
-      is = at;
-      unchanged = next ∙ eqb-true (demand R i w) w e;
-      changed = changed;
-      within = le;
-    }
-    by-value le false e go = go (eqb-false (demand R i w) w e)
-
-    by-limit : (b : Bool) → leb w limit ≡ b
-        → (w ≤ limit → demand R i w ≢ w → Says R i limit (rounds (demand R i) limit most (n + 1) (demand R i w)))
-        → Says R i limit (cond b (cond (eqb (demand R i w) w) (found w (n + 1)) (rounds (demand R i) limit most (n + 1) (demand R i w))) (none n))
-    by-limit true e go = by-value (leb-true w limit e) (eqb (demand R i w) w) refl (go (leb-true w limit e))
-    by-limit false e go = record { above = omega (arith, leb-false w limit e); changed = changed; within = within }
-
--- THE ROUNDS REPORTED ARE THE REPLACEMENTS DONE
-pub outcome-says : (R : Rules) (i limit : ℕ) → Sound R → Says R i limit (outcome R i limit)
-unfolding outcome value
-outcome-says R i limit ok =
-    rounds-says R i limit (limit + 1) 0 (R .C i + R .S) ok refl (omega arith)
-    (λ k l. absurd (let z : ⊥ = omega arith in z)) (λ k l. absurd (let z : ⊥ = omega arith in z))
-
--- w is the window of task i: the least number of at least 1 and at most the limit whose demand is at most it
+-- The window of task i is w: the least number of at least 1 and at most the limit whose demand is at most it.
 pub record Window (R : Rules) (i limit w : ℕ) : Type 0 where
   pub some : 1 ≤ w
   pub within : w ≤ limit
   pub fits : demand R i w ≤ w
   pub least : (x : ℕ) → demand R i x ≤ x → w ≤ x
-
--- THE WINDOW FOUND IS THE LEAST
-pub found-window : (R : Rules) (i limit w n : ℕ) → Sound R → Found R i limit w n → Window R i limit w
-found-window R i limit w n ok F =
-    let L = value-least R i (F .last) ok (F .unchanged ∙ sym (F .is)) in
-    record {
-      some = rw (F .is) at (value-some R i (F .last) ok);
-      within = F .within;
-      fits = rw (F .is) at (L .0);
-      least = λ x f. rw (F .is) at (L .1 x f);
-    }
-
--- WHERE NONE IS FOUND THERE IS NONE
-pub passed-none : (R : Rules) (i limit n : ℕ) → Sound R → Passed R i limit n → (x : ℕ) → x ≤ limit → demand R i x ≤ x → ⊥
-passed-none R i limit n ok P = value-none R i n limit ok (P .above)

@@ -1,2 +1,3 @@
-// The mathematics of the schedule, in specs/: an abstract scheduler for any number of tasks and any
-// harmonizing period, the window and its rounds, the response bound and the worst pattern. No code.
+// This is the mathematics of the schedule, without code. specs/ has what a reader must believe: a
+// set's rules, a window's demand, the rounds, the worst pattern's offsets. proofs/ has the abstract
+// scheduler, for any number of tasks and any H, the response bound and the worst pattern.

@@ -1,9 +1,12 @@
-// The schedule run and compared: document 01's case J tick by tick, F's run, every refusal 6 to 13
-// at small inputs with what came back, and a state for every rule under "State".
+// The schedule is run and compared: document 01's case J tick by tick, F's run, every refusal 6 to
+// 13 at small inputs with what came back, and a state for every rule under "State".
+ghost use mathlib.Core.Path.{_≡_};
+ghost use Rattle.scheduler.specs.Steps.{stepOf};
 use scheduler::Answer;
 use scheduler::Entry;
 use scheduler::Job;
 use scheduler::Last;
+use scheduler::Moved;
 use scheduler::State;
 use scheduler::Tally;
 use scheduler::Tick;
@@ -11,11 +14,11 @@ use scheduler::Ticked;
 use scheduler::energy;
 use scheduler::release;
 use scheduler::start;
-use scheduler::step_on;
+use scheduler::step;
 use table::Record;
 use table::tell;
 
-// The house table and the source's Figure 3 set, as in tables/.
+// The tables are the house table and the source's Figure 3 set, as in tables/.
 const HOUSE: [u8; 80] =
     *b"\x0a\0\0\0\x08\0\0\0\x14\0\0\0\0\0\0\0\x0b\0\0\0\x02\0\0\0\x14\0\0\0\0\0\0\0\x0c\0\0\0\x03\0\0\0\x32\0\0\0\0\0\0\0\x0d\0\0\0\x02\0\0\0\x64\0\0\0\0\0\0\0\x0e\0\0\0\x04\0\0\0\xc8\0\0\0\0\0\0\0";
 
@@ -35,7 +38,7 @@ fn main() {
     energies();
 }
 
-// An accepted start and a refused one, and what a refused one's state gets.
+// An accepted start and a refused one are shown here, and what a refused one's state gets.
 fn starts() {
     say(b"starts\n");
     let house = start(&HOUSE);
@@ -51,7 +54,7 @@ fn starts() {
     tried(b"a refused start's state", state);
 }
 
-// Case J: the worst pattern on the house table for 40 ticks, its tally and its energy.
+// Case J runs the worst pattern on the house table for 40 ticks, with its tally and its energy.
 fn case_j() {
     say(b"J\n");
     let begun = start(&HOUSE);
@@ -60,7 +63,7 @@ fn case_j() {
     let mut t: u32 = 0;
     while t < 40 {
         state = given(state, t, 20, 1);
-        let moved = step_on(state, tally);
+        let moved = step_lent(state, tally);
         let answer = moved.answer;
         number(t);
         ticked(answer);
@@ -74,7 +77,8 @@ fn case_j() {
     consumed(tally, 23000, 16);
 }
 
-// F's set, every task released from tick 0 at its period: what is refused and what finishes.
+// F's set runs with every task released from tick 0 at its period: what is refused and what
+// finishes is written.
 fn figure_3() {
     say(b"F\n");
     let begun = start(&FIGURE_3);
@@ -83,7 +87,7 @@ fn figure_3() {
     let mut t: u32 = 0;
     while t < 90 {
         state = given(state, t, 0, 0);
-        let moved = step_on(state, tally);
+        let moved = step_lent(state, tally);
         let answer = moved.answer;
         let after = moved.state;
         let counts = moved.tally;
@@ -95,7 +99,8 @@ fn figure_3() {
     counted(tally);
 }
 
-// Refusals 8 to 12, and what is accepted beside them; the lowest number where several apply.
+// Refusals 8 to 12 are tried here, and what is accepted beside them; the lowest number is given
+// where several apply.
 fn releases() {
     say(b"releases at 30: task 1 rests, 2 to 4 work\n");
     let s = house_at(30);
@@ -122,25 +127,25 @@ fn releases() {
     asked(clocked(s, 51), 4, 4);
 }
 
-// The last clock.
+// The last clock is tried here.
 fn ends() {
     say(b"the clock's end\n");
     let begun = start(&HOUSE);
     let s = begun.state;
     let last = clocked(s, 999999999);
     let over = clocked(s, 1000000000);
-    let behind = clocked(s, 1000000001);
+    let past = clocked(s, 1000000001);
     stepped(last, 0, 0, 999999999);
     stepped(over, 0, 0, 1000000000);
     stepped(over, 0, 0, 999999999);
-    stepped(behind, 0, 0, 1000000001);
+    stepped(past, 0, 0, 1000000001);
     asked(last, 2, 3);
     asked(over, 2, 3);
     asked(over, 0, 0);
-    asked(behind, 2, 3);
+    asked(past, 2, 3);
 }
 
-// States that break the table rules.
+// States that break the table rules are tried here.
 fn tables() {
     let s = house_at(30);
     let z = s.sleep;
@@ -183,7 +188,7 @@ fn tables() {
     );
 }
 
-// States that break the rules of jobs and last releases.
+// States that break the rules of jobs and last releases are tried here.
 fn entries() {
     let s = house_at(30);
     tried(
@@ -224,7 +229,7 @@ fn entries() {
     );
 }
 
-// Spare places that are not zero, at rest and never released.
+// Spare places that are not zero, at rest and never released are tried here.
 fn spares() {
     let s = house_at(30);
     let nothing = record(0, 0, 0, 0);
@@ -246,7 +251,7 @@ fn spares() {
     tried(b"spare places as they should be", tasked(s, 15, nothing));
 }
 
-// Tallies that do not sum to the clock.
+// Tallies that do not sum to the clock are tried here.
 fn tallies() {
     say(b"tallies at 30\n");
     let s = house_at(30);
@@ -257,7 +262,7 @@ fn tallies() {
     stepped(s, 4294967295, 4294967295, 4294967295);
 }
 
-// Refusals 6 and 13 of an energy reading.
+// Refusals 6 and 13 of an energy reading are tried here.
 fn energies() {
     say(b"energies\n");
     consumed(tally_of(11, 16, 13), 23000, 16);
@@ -272,7 +277,7 @@ fn energies() {
     consumed(zeros(), 1000000, 1000000);
 }
 
-// The house table under the worst pattern, before the step at clock t.
+// The state is that of the house table under the worst pattern, before the step at clock t.
 fn house_at(t: u32) -> State {
     let begun = start(&HOUSE);
     let mut state = begun.state;
@@ -280,7 +285,7 @@ fn house_at(t: u32) -> State {
     let mut k: u32 = 0;
     while k < t {
         state = given(state, k, 20, 1);
-        let moved = step_on(state, tally);
+        let moved = step_lent(state, tally);
         let after = moved.state;
         let counts = moved.tally;
         state = after;
@@ -290,7 +295,19 @@ fn house_at(t: u32) -> State {
     given(state, t, 20, 1)
 }
 
-// The state with every task released that is due at t, in table order and with full demand: task 1
+// Every step of this program goes through here: it is `step` itself, to which the tally is lent.
+fn step_lent(state: State, mut tally: Tally) -> Moved
+    ensures { λ r. ⌜ r ≡ stepOf state tally ⌝ }
+{
+    let s = step(state, &mut tally);
+    Moved {
+        answer: s.answer,
+        tally: tally,
+        state: s.state,
+    }
+}
+
+// The state has every task released that is due at t, in table order and with full demand: task 1
 // at `first` and every period after, the others at `others`. What is refused is written.
 fn given(s: State, t: u32, first: u32, others: u32) -> State {
     let mut state = s;
@@ -336,11 +353,11 @@ fn refused_at(t: u32, i: u32, answer: Answer) {
     }
 }
 
-// A step and a release on a state: the numbers given, and whether anything changed.
+// A step and a release on a state write the numbers given, and whether anything changed.
 fn tried(name: &[u8], s: State) {
     say(name);
     say(b": ");
-    let moved = step_on(s, tally_of(2, 16, 12));
+    let moved = step_lent(s, tally_of(2, 16, 12));
     let answer = moved.answer;
     told(answer);
     let after = moved.state;
@@ -348,7 +365,7 @@ fn tried(name: &[u8], s: State) {
     asked(s, 2, 1);
 }
 
-// A release: the number given, and whether anything changed.
+// A release writes the number given, and whether anything changed.
 fn asked(s: State, task: u32, demand: u32) {
     say(b"release ");
     number(task);
@@ -360,10 +377,10 @@ fn asked(s: State, task: u32, demand: u32) {
     answered(answer);
 }
 
-// A step with a tally: the answer, whether the state changed, and the tally behind it.
+// A step with a tally writes the answer, whether the state changed, and the tally after it.
 fn stepped(s: State, run: u32, slot: u32, tail: u32) {
     say(b"step ");
-    let moved = step_on(s, tally_of(run, slot, tail));
+    let moved = step_lent(s, tally_of(run, slot, tail));
     let answer = moved.answer;
     let after = moved.state;
     let counts = moved.tally;
@@ -431,7 +448,7 @@ fn counted(tally: Tally) {
     line(tally.tail);
 }
 
-// What a tick was, or the refusal.
+// The line says what a tick was, or the refusal.
 fn ticked(answer: Ticked) {
     told(answer);
     say(b"\n");
@@ -467,7 +484,7 @@ fn answered(answer: Answer) {
     }
 }
 
-// Whether two states differ in anything.
+// The text says whether two states differ in anything.
 fn differs(a: State, b: State) {
     if sum(a) == sum(b) {
         say(b"state unchanged ");
@@ -486,7 +503,7 @@ fn shown(s: State) {
     say(b"\n");
 }
 
-// A sum over every field of a state, each at a weight of its own.
+// The sum is over every field of a state, each at a weight of its own.
 fn sum(s: State) -> u64 {
     let z = s.sleep;
     let mut x = mixed(mixed(17, s.n), s.clock);
@@ -545,7 +562,7 @@ fn slept(s: State, sleep: Record) -> State {
     next
 }
 
-// The state with another record at place i, the job and the last release as they are.
+// The state has another record at place i, the job and the last release as they are.
 fn tasked(s: State, i: usize, task: Record) -> State {
     if 15 < i {
         return s;
@@ -562,7 +579,7 @@ fn tasked(s: State, i: usize, task: Record) -> State {
     next
 }
 
-// The state with the task at place i at rest, its last release as given.
+// The state has the task at place i at rest, its last release as given.
 fn lasted(s: State, i: usize, last: Last) -> State {
     if 15 < i {
         return s;
@@ -578,7 +595,7 @@ fn lasted(s: State, i: usize, last: Last) -> State {
     next
 }
 
-// The state with the task at place i at work.
+// The state has the task at place i at work.
 fn worked(s: State, i: usize, release: u32, left: u32, last: Last) -> State {
     if 15 < i {
         return s;

@@ -1,8 +1,7 @@
--- `admission::admit` meets its contract: the walk where the table reads as sound, else the refusal alone.
+-- `admission::admit` meets its contract: it gives the walk where the table reads as sound, else the refusal alone.
 use borrow.Author.Needs.{needs}
 use lib.ListN.{replicate}
 use mathlib.Core.Path.{sym, _∙_}
-use Rattle.table.specs.declared.Reading.{Reading}
 use Rattle.admission.proofs.admit.Statement.{statement}
 use Rattle.admission.proofs.admit.Tie as tie
 

@@ -4,23 +4,23 @@ use borrow.Author.Needs.{needs}
 use native.Mathlib.Omega.{arith}
 use Rattle.admission.proofs.DemandLaws.{Parts, parts-small, terms-most, table-small, few-tasks, work-at, sleep-at}
 use Rattle.table.specs.Set.{rulesOf}
-use Rattle.theory.specs.System.{demand}
+use Rattle.theory.specs.Rules.{demand}
 use Rattle.admission.proofs.demand.Statement.{statement}
 use Rattle.admission.proofs.demand.Tie as tie
 
--- the parts of the definition
+-- The parts of the definition are small.
 parts : (c : tie.After-ceil) → Parts (rulesOf (c .before .before .before .before .args .table .now)) (c .before .before .before .before .args .i) (c .before .before .before .before .args .w)
 parts c = let a = c .before .before .before .before in parts-small (a .args .table .now) (a .args .i) (a .args .w) (a .pre .0) (a .pre .1)
 
--- the ticks of the boundaries that the window begins
+-- The ticks of the boundaries that the window begins are at most 120,000.
 span : (c : tie.After-ceil) → c .ceil .result * c .before .before .record-at .result .period ≤ 120000
 span c = rw (c .ceil .ensures, c .before .before .record-at .ensures) (parts c .span)
 
--- the slot ticks in them
+-- The slot ticks in the boundaries that the window begins are at most 120,000.
 slots : (c : tie.After-ceil) → c .ceil .result * c .before .before .record-at .result .work ≤ 120000
 slots c = rw (c .ceil .ensures, c .before .before .record-at .ensures) (parts c .slots)
 
--- the task's own work
+-- The task's own work is at most 60,000.
 work : (c : tie.After-ceil) → c .before .record-at2 .result .work ≤ 60000
 work c =
     let a = c .before .before .before .before in
@@ -28,7 +28,7 @@ work c =
     let e = work-at (a .args .table .now) (a .args .i + 1) (a .pre .0) (a .args .i) (omega arith) in
     rw (c .before .record-at2 .ensures, ← e) (omega arith)
 
--- the work above it
+-- The work of the tasks above it is at most 2,880,000.
 above : (c : tie.After-struct-known3) → c .before .before .jobs-above .result ≤ 2880000
 above c =
     let a = c .before .before .before .before .before .before .before .before in

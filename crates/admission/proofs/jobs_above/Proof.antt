@@ -5,11 +5,11 @@ use borrow.Author.Needs.{needs}
 use mathlib.Core.Path.{_≡_}
 use native.Mathlib.Numerals.{add-one}
 use native.Mathlib.Omega.{arith}
+use Rattle.base.specs.Sum.{sumTo}
 use Rattle.admission.proofs.DemandLaws.{term-most, terms-most, table-small, few-tasks, work-at, period-at}
 use Rattle.table.specs.Bytes.{recordAt}
 use Rattle.table.specs.Set.{rulesOf}
 use Rattle.theory.specs.Round.{ceil}
-use Rattle.theory.specs.Sum.{sumTo}
 use Rattle.admission.proofs.jobs_above.Statement.{statement}
 use Rattle.admission.proofs.jobs_above.Tie as tie
 
@@ -20,18 +20,18 @@ Inv-loop table i span sum₀ j₀ sum j =
 abbrev μ-loop : tie.MeasureT-loop
 μ-loop table i span sum₀ j₀ sum j = i - j
 
--- there are at most 16 tasks
+-- There are at most 16 tasks.
 few : (c : tie.After-shared-slice-known Inv-loop μ-loop) → c .before .args .i ≤ 16
 few c = few-tasks (c .before .args .table .now) (c .before .args .i) (c .before .pre .0)
 
--- the record read is that of task j
+-- The record read is that of task j.
 period : (c : tie.After-record-at Inv-loop μ-loop)
     → rulesOf (c .before .before .before .before .args .table .now) .T (c .before .before .loop .j) ≡ recordAt (c .before .before .before .before .args .table .now) (c .before .before .loop .j + 1) .period
 period c =
     let a = c .before .before .before .before in
     period-at (a .args .table .now) (a .args .i) (a .pre .0) (c .before .before .loop .j) (omega arith)
 
--- task j's jobs
+-- The work of task j's jobs is the term of the definition.
 job : (c : tie.After-struct-known Inv-loop μ-loop)
     → c .before .before .record-at .result .work * c .before .ceil .result
     ≡ rulesOf (c .before .before .before .before .before .before .args .table .now) .C (c .before .before .before .before .loop .j) * ceil (c .before .before .before .before .before .before .args .span) (rulesOf (c .before .before .before .before .before .before .args .table .now) .T (c .before .before .before .before .loop .j))
@@ -47,7 +47,7 @@ part c =
     let j = c .before .before .before .before .loop .j in
     omega (arith, job c, a .pre .1, term-most (rulesOf (a .args .table .now)) (table-small (a .args .table .now) (a .args .i) (a .pre .0)) j (a .args .span))
 
--- the jobs of the tasks passed
+-- The jobs of the tasks passed ask for a small sum.
 terms : (c : tie.After-struct-known Inv-loop μ-loop) → c .before .before .before .before .loop .sum ≤ 180000 * c .before .before .before .before .loop .j
 terms c =
     let a = c .before .before .before .before .before .before in

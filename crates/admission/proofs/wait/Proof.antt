@@ -2,11 +2,11 @@
 use Prim.Native.Nat.{ℕ, zero, suc, _-_}
 use borrow.Author.Needs.{needs}
 use mathlib.Core.Path.{_≡_, refl}
-use Rattle.admission.specs.Figure.{waiting}
+use Rattle.table.specs.Times.{waiting}
 use Rattle.admission.proofs.wait.Statement.{statement}
 use Rattle.admission.proofs.wait.Tie as tie
 
--- any task but the first
+-- Any task but the first waits at most H - 1 ticks.
 later : (i h : ℕ) → (i ≡ 0 → ⊥) → h - 1 ≡ waiting i h
 unfolding waiting
 later zero h n = absurd (n refl)

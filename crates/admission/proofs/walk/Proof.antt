@@ -1,31 +1,32 @@
--- `admission::walk` meets its contract. The rounds from here end as the whole search of the task does, and the walk from
--- here gives the verdict of the whole walk. The values rise, so that the rounds end.
+-- `admission::walk` meets its contract. The rounds from here end as the whole search of the task does, and the walk
+-- from here gives the verdict of the whole walk. The values rise, so that the rounds end.
 use Prim.Native.Nat.{ℕ, _≤_, _<_, _-_, _+_}
 use borrow.Author.Needs.{needs}
 use lib.ListN.{replicate}
 use mathlib.Core.List.{List}
 use mathlib.Core.Path.{_≡_, refl, ap, sym, _∙_}
 use native.Mathlib.Omega.{arith}
-use Rattle.admission.proofs.DemandLaws.{table-sound, table-small, few-tasks, work-at, period-at, period-not-below, sleep-at}
-use Rattle.admission.proofs.WalkLaws.{walk-step, waiting-most}
-use Rattle.admission.specs.Figure.{waiting, wait, limit}
+use Rattle.admission.proofs.DemandLaws.{table-sound, table-small, few-tasks, work-at, sleep-at, limit-small}
+use Rattle.admission.proofs.WalkLaws.{walk-step}
+use Rattle.admission.specs.Figure.{limit}
 use Rattle.admission.specs.Verdicts.{Tasks, walkFrom, zeros}
 use Rattle.admission.specs.declared.Answer.the-variants.{Admitted}
 use Rattle.table.specs.Set.{rulesOf}
 use Rattle.table.specs.declared.Record.{Record}
-use Rattle.theory.specs.Rounds.{found, none, rounds as rounds·of, outcome, rounds-none, rounds-found, rounds-go}
-use Rattle.theory.specs.System.{demand}
-use Rattle.theory.specs.Window.{demand-first, demand-mono}
+use Rattle.theory.specs.Rules.{demand}
+use Rattle.theory.specs.Rounds.{found, none, rounds as rounds·of, outcome}
+use Rattle.theory.proofs.WindowLaws.{demand-first, demand-mono}
+use Rattle.theory.proofs.RoundsLaws.{rounds-none, rounds-found, rounds-go}
 use Rattle.admission.proofs.walk.Statement.{statement}
 use Rattle.admission.proofs.walk.Tie as tie
 
 abbrev Inv-rounds : tie.InvT-rounds
-Inv-rounds table n windows figures rounds answer₀ sleep i at waiting limit w₀ k₀ answer w k =
+Inv-rounds table n windows figures rounds answer₀ sleep i at most w₀ k₀ answer w k =
     (answer ≡ answer₀) × (w ≤ demand (rulesOf table) i w) × (k + 1 ≤ w)
-    × (rounds·of (demand (rulesOf table) i) limit (limit + 1 - k) k w ≡ outcome (rulesOf table) i limit)
+    × (rounds·of (demand (rulesOf table) i) most (most + 1 - k) k w ≡ outcome (rulesOf table) i most)
 
 abbrev μ-rounds : tie.MeasureT-rounds
-μ-rounds table n windows figures rounds answer₀ sleep i at waiting limit w₀ k₀ answer w k = limit + 1 - w
+μ-rounds table n windows figures rounds answer₀ sleep i at most w₀ k₀ answer w k = most + 1 - w
 
 abbrev Inv-tasks : tie.InvT-tasks
 Inv-tasks table n windows₀ figures₀ rounds₀ answer₀ sleep i₀ windows figures rounds answer i =
@@ -35,7 +36,7 @@ Inv-tasks table n windows₀ figures₀ rounds₀ answer₀ sleep i₀ windows f
 abbrev μ-tasks : tie.MeasureT-tasks
 μ-tasks table n windows₀ figures₀ rounds₀ answer₀ sleep i₀ windows figures rounds answer i = n - i
 
--- the table, and the task at hand
+-- `bytes` is the table, and `task` the task at hand, which is one of at most 16.
 abbrev bytes : tie.After-record-at2 Inv-rounds μ-rounds Inv-tasks μ-tasks → List ℕ
 bytes c = c .before .before .before .before .before .args .table .now
 
@@ -48,7 +49,7 @@ tasks c = let a = c .before .before .before .before .before in record { all = a 
 few : (c : tie.After-record-at2 Inv-rounds μ-rounds Inv-tasks μ-tasks) → task c < 16
 few c = omega (arith, few-tasks (bytes c) (task c + 1) (tasks c))
 
--- S and H, and the task's work and period, are small
+-- S and H, and the task's work and period, are small.
 sleep : (c : tie.After-record-at2 Inv-rounds μ-rounds Inv-tasks μ-tasks) → (rulesOf (bytes c) .S < rulesOf (bytes c) .H) × (rulesOf (bytes c) .H ≤ 60000)
 sleep c = sleep-at (bytes c) (task c + 1) (tasks c)
 
@@ -56,11 +57,7 @@ works : (c : tie.After-record-at2 Inv-rounds μ-rounds Inv-tasks μ-tasks)
     → (1 ≤ rulesOf (bytes c) .C (task c)) × (rulesOf (bytes c) .C (task c) ≤ rulesOf (bytes c) .T (task c)) × (rulesOf (bytes c) .T (task c) ≤ 60000)
 works c = table-small (bytes c) (task c + 1) (tasks c) (task c)
 
--- the record read is the task's
-period-is : (c : tie.After-record-at2 Inv-rounds μ-rounds Inv-tasks μ-tasks) → c .record-at2 .result .period ≡ rulesOf (bytes c) .T (task c)
-period-is c = ap (λ (r : Record). r .period) (c .record-at2 .ensures) ∙ sym (period-at (bytes c) (task c + 1) (tasks c) (task c) (omega arith))
-
--- the rounds begin with C + S
+-- The rounds begin with C + S.
 first : (c : tie.After-record-at2 Inv-rounds μ-rounds Inv-tasks μ-tasks)
     → c .record-at2 .result .work + c .before .before .before .record-at .result .work ≡ rulesOf (bytes c) .C (task c) + rulesOf (bytes c) .S
 first c =
@@ -71,23 +68,9 @@ first c =
       work-at (bytes c) (task c + 1) (tasks c) (task c) (omega arith),
     )
 
--- the wait and the limit are the definition's
-wait-is : (c : tie.After-wait Inv-rounds μ-rounds Inv-tasks μ-tasks) → c .wait .result ≡ wait (rulesOf (bytes (c .before))) (task (c .before))
-wait-is c = c .wait .ensures ∙ ap (λ (r : Record). waiting (task (c .before)) (r .period)) (c .before .before .before .before .record-at .ensures)
-
-limit-is : (c : tie.After-wait Inv-rounds μ-rounds Inv-tasks μ-tasks) → c .before .record-at2 .result .period - c .wait .result ≡ limit (rulesOf (bytes (c .before))) (task (c .before))
-limit-is c = ap (λ (t : ℕ). t - c .wait .result) (period-is (c .before)) ∙ ap (λ (w : ℕ). rulesOf (bytes (c .before)) .T (task (c .before)) - w) (wait-is c)
-
-limit-small : (c : tie.After-wait Inv-rounds μ-rounds Inv-tasks μ-tasks) → c .before .record-at2 .result .period - c .wait .result ≤ 60000
-limit-small c = omega (arith, period-is (c .before), works (c .before))
-
--- no wait is longer than the period
-waits : (c : tie.After-wait Inv-rounds μ-rounds Inv-tasks μ-tasks) → (c .wait .result ≤ 60000) × (c .wait .result ≤ c .before .record-at2 .result .period)
-waits c =
-    let p = c .before in
-    let most : waiting (task p) (rulesOf (bytes p) .H) ≤ rulesOf (bytes p) .H - 1 = waiting-most (task p) (rulesOf (bytes p) .H) in
-    let below = period-not-below (bytes p) (task p + 1) (tasks p) (task p) (omega arith) in
-    (omega (arith, wait-is c, sleep p), omega (arith, wait-is c, period-is p))
+-- The limit is the definition's, and small.
+small : (c : tie.After-limit Inv-rounds μ-rounds Inv-tasks μ-tasks) → c .limit .result ≤ 60000
+small c = let p = c .before in rw (c .limit .ensures) (limit-small (bytes p) (task p + 1) (tasks p) (task p))
 
 record-at-requires : tie.Need-record-at-requires Inv-rounds μ-rounds Inv-tasks μ-tasks
 record-at-requires c κs = search needs
@@ -106,21 +89,17 @@ add-record-at c = search needs
 record-at-requires-2 : tie.Need-record-at-requires-2 Inv-rounds μ-rounds Inv-tasks μ-tasks
 record-at-requires-2 c κs = search needs
 
-wait-requires : tie.Need-wait-requires Inv-rounds μ-rounds Inv-tasks μ-tasks
-wait-requires c κs = rw (c .before .before .before .record-at .ensures) (omega (arith, sleep c))
-
-sub-limit : tie.Need-sub-limit Inv-rounds μ-rounds Inv-tasks μ-tasks
-sub-limit c = omega (arith, waits (c .before))
+limit-requires : tie.Need-limit-requires Inv-rounds μ-rounds Inv-tasks μ-tasks
+limit-requires c κs = tasks c
 
 add-w : tie.Need-add-w Inv-rounds μ-rounds Inv-tasks μ-tasks
-add-w c =
-    omega (arith, first (c .before .before .before .before), works (c .before .before .before .before), sleep (c .before .before .before .before))
+add-w c = let p = c .before .before .before in omega (arith, first p, works p, sleep p)
 
 rounds-holds : tie.Need-rounds-holds Inv-rounds μ-rounds Inv-tasks μ-tasks
 unfolding outcome
 rounds-holds c =
-    let p = c .before .before .before .before in
-    let l : ℕ = p .record-at2 .result .period - c .before .before .before .wait .result in
+    let p = c .before .before .before in
+    let l : ℕ = c .before .before .limit .result in
     let e : l + 1 - 0 ≡ l + 1 = omega arith in
     let w = first p in (
       refl,
@@ -129,24 +108,24 @@ rounds-holds c =
       rw (e, w),
     )
 
-add-t19 : tie.Need-add-t19 Inv-rounds μ-rounds Inv-tasks μ-tasks
-add-t19 c = search needs
+add-t18 : tie.Need-add-t18 Inv-rounds μ-rounds Inv-tasks μ-tasks
+add-t18 c = search needs
 
 demand-requires : tie.Need-demand-requires Inv-rounds μ-rounds Inv-tasks μ-tasks
 demand-requires c κs =
-    let p = c .before .before .before .before .before .before in
-    (tasks p, omega (arith, limit-small (c .before .before .before .before .before)))
+    let p = c .before .before .before .before .before in
+    (tasks p, omega (arith, small (c .before .before .before .before)))
 
 add-k : tie.Need-add-k Inv-rounds μ-rounds Inv-tasks μ-tasks
-add-k c = omega (arith, limit-small (c .before .before .before .before .before .before))
+add-k c = omega (arith, small (c .before .before .before .before .before))
 
 rounds-less : tie.Need-rounds-less Inv-rounds μ-rounds Inv-tasks μ-tasks
 rounds-less c = omega (arith, c .before .demand .ensures, c .if2 .left)
 
 rounds-again : tie.Need-rounds-again Inv-rounds μ-rounds Inv-tasks μ-tasks
 rounds-again c =
-    let p = c .before .before .before .before .before .before .before .before in
-    let l : ℕ = p .record-at2 .result .period - c .before .before .before .before .before .before .before .wait .result in
+    let p = c .before .before .before .before .before .before .before in
+    let l : ℕ = c .before .before .before .before .before .before .limit .result in
     let v = c .before .before .before .rounds in
     let e = c .before .demand .ensures in
     let q : l + 1 - (v .k + 1) ≡ l + 1 - v .k - 1 = omega arith in
@@ -161,11 +140,12 @@ mul-windows : tie.Need-mul-windows Inv-rounds μ-rounds Inv-tasks μ-tasks
 mul-windows c = search needs
 
 array-write-windows : tie.Need-array-write-windows Inv-rounds μ-rounds Inv-tasks μ-tasks
-array-write-windows c = omega (arith, few (c .before .before .before .before .before .before .before .before))
+array-write-windows c = omega (arith, few (c .before .before .before .before .before .before .before))
 
-add-figures : tie.Need-add-figures Inv-rounds μ-rounds Inv-tasks μ-tasks
-add-figures c =
-    omega (arith, limit-small (c .before .before .before .before .before .before .before), waits (c .before .before .before .before .before .before .before))
+figure-requires : tie.Need-figure-requires Inv-rounds μ-rounds Inv-tasks μ-tasks
+figure-requires c κs =
+    let l = c .before .before .before .before .before .before in
+    (tasks (l .before), omega (arith, small l))
 
 mul-figures : tie.Need-mul-figures Inv-rounds μ-rounds Inv-tasks μ-tasks
 mul-figures c = search needs
@@ -187,15 +167,16 @@ tasks-less c = search needs
 
 tasks-again : tie.Need-tasks-again Inv-rounds μ-rounds Inv-tasks μ-tasks
 tasks-again c =
-    let p = c .before .before .before .before .before .before .before .before in
+    let m = c .before .before .before .before .before .before .before in
+    let p = m .before in
     let o = p .before .before .tasks in
-    let l : ℕ = p .record-at2 .result .period - c .before .before .before .before .before .before .before .wait .result in
-    let v = c .before .before .before .rounds in
-    let met = rounds-found (demand (rulesOf (bytes p)) (task p)) l (l + 1 - v .k) (v .k) (v .w) (omega arith) (omega arith) (sym (c .before .demand .ensures) ∙ c .if2 .taken) in
-    let z : outcome (rulesOf (bytes p)) (task p) (limit (rulesOf (bytes p)) (task p)) ≡ found (v .w) (v .k + 1) = rw (← limit-is (c .before .before .before .before .before .before .before)) (sym (v .inv .3) ∙ met) in
+    let v = c .before .before .before .before .rounds in
+    let met = rounds-found (demand (rulesOf (bytes p)) (task p)) (m .limit .result) (m .limit .result + 1 - v .k) (v .k) (v .w) (omega arith) (omega arith)
+    (sym (c .before .before .demand .ensures) ∙ c .before .if2 .taken) in
+    let z : outcome (rulesOf (bytes p)) (task p) (limit (rulesOf (bytes p)) (task p)) ≡ found (v .w) (v .k + 1) = rw (← m .limit .ensures) (sym (v .inv .3) ∙ met) in
     let n = p .before .before .before .before .before .args .n in
     let q : n - (o .i + 1) ≡ n - o .i - 1 = omega arith in
-    (omega arith, v .inv .0 ∙ o .inv .1, rw (q, wait-is (c .before .before .before .before .before .before .before)) (rw (walk-step (rulesOf (bytes p)) (n - o .i) (o .i) _ _ _ (omega arith), z) at (o .inv .2)))
+    (omega arith, v .inv .0 ∙ o .inv .1, rw (q, c .figure .ensures) (rw (walk-step (rulesOf (bytes p)) (n - o .i) (o .i) _ _ _ (omega arith), z) at (o .inv .2)))
 
 returns : tie.Need-returns Inv-rounds μ-rounds Inv-tasks μ-tasks
 unfolding walkFrom
@@ -208,12 +189,12 @@ returns c =
 
 returns-2 : tie.Need-returns-2 Inv-rounds μ-rounds Inv-tasks μ-tasks
 returns-2 c =
-    let p = c .before .before .before .before .before .before in
+    let m = c .before .before .before .before in
+    let p = m .before in
     let o = p .before .before .tasks in
-    let l : ℕ = p .record-at2 .result .period - c .before .before .before .before .before .wait .result in
     let v = c .before .rounds in
-    let past = rounds-none (demand (rulesOf (bytes p)) (task p)) l (l + 1 - v .k) (v .k) (v .w) (omega arith) in
-    let z : outcome (rulesOf (bytes p)) (task p) (limit (rulesOf (bytes p)) (task p)) ≡ none (v .k) = rw (← limit-is (c .before .before .before .before .before)) (sym (v .inv .3) ∙ past) in
+    let past = rounds-none (demand (rulesOf (bytes p)) (task p)) (m .limit .result) (m .limit .result + 1 - v .k) (v .k) (v .w) (omega arith) in
+    let z : outcome (rulesOf (bytes p)) (task p) (limit (rulesOf (bytes p)) (task p)) ≡ none (v .k) = rw (← m .limit .ensures) (sym (v .inv .3) ∙ past) in
     let n = p .before .before .before .before .before .args .n in
     rw (walk-step (rulesOf (bytes p)) (n - o .i) (o .i) _ _ _ (omega arith), z) at (o .inv .2)
 
@@ -230,18 +211,17 @@ walk-spec =
     cast-at
     add-record-at
     record-at-requires-2
-    wait-requires
-    sub-limit
+    limit-requires
     add-w
     rounds-holds
-    add-t19
+    add-t18
     demand-requires
     add-k
     rounds-less
     rounds-again
     mul-windows
     array-write-windows
-    add-figures
+    figure-requires
     mul-figures
     array-write-figures
     mul-rounds

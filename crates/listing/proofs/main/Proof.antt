@@ -2,8 +2,8 @@
 use borrow.Author.Needs.{needs}
 use lib.ListN.{length-take}
 use native.Mathlib.Omega.{arith}
-use Rattle.sheet.proofs.PageLaws.{Whole, shown-whole, blank-whole}
-use Rattle.sheet.specs.Pages.{blank}
+use Rattle.texts.proofs.PageLaws.{Whole, shown-whole, blank-whole}
+use Rattle.texts.specs.Pages.{blank}
 use Rattle.listing.proofs.main.Statement.{statement}
 use Rattle.listing.proofs.main.Tie as tie
 

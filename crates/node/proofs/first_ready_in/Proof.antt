@@ -3,19 +3,22 @@ use borrow.Author.Needs.{needs}
 use lib.ListN.{getD}
 use mathlib.Core.Bool.{Bool}
 use mathlib.Core.List.{List}
-use mathlib.Core.Path.{_≡_, sym, _∙_}
+use mathlib.Core.Path.{_≡_, sym, _∙_, ap}
 use native.Mathlib.Omega.{arith}
 use Prim.Native.Nat.{ℕ, _-_, _≤_}
-use Rattle.theory.specs.First.{firstFrom, first-on, first-here, first-end}
+use Rattle.base.specs.First.{firstFrom}
+use Rattle.base.proofs.FirstLaws.{first-on, first-here, first-end}
+use Rattle.scheduler.specs.declared.Entry.{Entry}
 use Rattle.scheduler.specs.States.{noEntry}
 use Rattle.scheduler.specs.Steps.{came}
 use Rattle.node.specs.Layout.{entriesIn}
+use Rattle.node.proofs.LayoutLaws.{entry-is}
 use Rattle.node.proofs.first_ready_in.Statement.{statement}
 use Rattle.node.proofs.first_ready_in.Tie as tie
 
--- the test of place i
+-- `camePlace` is the test of place i.
 abbrev camePlace : ℕ → List ℕ → ℕ → Bool
-camePlace boundary bytes i = came boundary (getD (entriesIn bytes) i noEntry .job)
+camePlace boundary words i = came boundary (getD (entriesIn words) i noEntry .job)
 
 abbrev Inv-loop : tie.InvT-loop
 Inv-loop state n boundary i₀ i = (i ≤ n) × (firstFrom (camePlace boundary state) (n - i) i ≡ firstFrom (camePlace boundary state) n 0)
@@ -23,19 +26,27 @@ Inv-loop state n boundary i₀ i = (i ≤ n) × (firstFrom (camePlace boundary s
 abbrev μ-loop : tie.MeasureT-loop
 μ-loop state n boundary i₀ i = n - i
 
--- what was asked of place i
+-- What was asked of place i is its test.
 asked : (c : tie.After-came-by Inv-loop μ-loop)
-    → c .came-by .result ≡ camePlace (c .before .before .before .before .before .args .boundary) (c .before .before .before .before .before .args .state .now) (c .before .before .before .loop .i)
-asked c = c .came-by .ensures ∙ rw (c .before .place-at .ensures)
+    → let a = c .before .before .before .before .before .args in c .came-by .result ≡ camePlace (a .boundary) (a .state .now) (c .before .before .before .loop .i)
+asked c =
+    let a = c .before .before .before .before .before .args in
+    c .came-by .ensures ∙ ap (came (a .boundary)) (c .before .job-in .ensures ∙ sym (ap {A = Entry} (λ x. x .job) (entry-is (a .state .now) (c .before .before .before .loop .i) (omega arith))))
 
 loop-holds : tie.Need-loop-holds Inv-loop μ-loop
 loop-holds c = (omega arith, (let e : c .before .args .n - 0 ≡ c .before .args .n = omega arith in rw e))
 
-cast-place-at : tie.Need-cast-place-at Inv-loop μ-loop
-cast-place-at c = search needs
+cast-job-in : tie.Need-cast-job-in Inv-loop μ-loop
+cast-job-in c = search needs
 
-place-at-requires : tie.Need-place-at-requires Inv-loop μ-loop
-place-at-requires c κs = search needs
+mul-job-in : tie.Need-mul-job-in Inv-loop μ-loop
+mul-job-in c = search needs
+
+add-job-in : tie.Need-add-job-in Inv-loop μ-loop
+add-job-in c = search needs
+
+job-in-requires : tie.Need-job-in-requires Inv-loop μ-loop
+job-in-requires c κs = search needs
 
 came-by-requires : tie.Need-came-by-requires Inv-loop μ-loop
 came-by-requires c κs = search needs
@@ -62,8 +73,10 @@ first-ready-in-spec =
     Inv-loop
     μ-loop
     loop-holds
-    cast-place-at
-    place-at-requires
+    cast-job-in
+    mul-job-in
+    add-job-in
+    job-in-requires
     came-by-requires
     returns
     add-i

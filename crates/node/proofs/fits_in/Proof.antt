@@ -1,68 +1,62 @@
--- `node::fits_in` meets its contract: the length, the rules of the head, then every place, encoded and lawful.
+-- `node::fits_in` meets its contract: the rules of the head, those of every task's place, and no word after them.
 use borrow.Author.Needs.{needs}
-use borrow.Author.Tests.{eq-eqb, ne-eqb, not-true, not-false}
+use borrow.Author.Tests.{not-true, not-false}
+use mathlib.Core.Bool.{true}
 use mathlib.Core.Path.{_≡_, sym, _∙_, ap}
-use native.Mathlib.Omega.{arith}
-use Rattle.node.proofs.OnLaws.{no-more}
-use Rattle.table.specs.declared.Record.{Record}
-use Rattle.scheduler.specs.declared.Entry.{Entry}
-use Rattle.scheduler.proofs.EveryLaws.{every-both}
-use Rattle.scheduler.specs.States.{headFits, recordIn, stateFits}
-use Rattle.node.specs.Words.{wordIn}
-use Rattle.node.specs.Layout.{recordFrom, stateIn, encodes}
-use Rattle.node.proofs.LayoutLaws.{entry-is}
+use Prim.Native.Nat.{_≤_}
+use Rattle.table.specs.Sound.{places}
+use Rattle.scheduler.specs.States.{headFits}
+use Rattle.node.specs.Layout.{headSize, recordFrom}
+use Rattle.node.proofs.CallLaws.{fits-parts, few-tasks, places-fit}
 use Rattle.node.proofs.fits_in.Statement.{statement}
 use Rattle.node.proofs.fits_in.Tie as tie
 
--- what was asked of the head
-head : (c : tie.After-head-fits)
-    → let b = c .before .before .before .before .before .before .before .args .state .now in c .head-fits .result ≡ headFits (stateIn b .sleep) (recordIn (stateIn b) 1) (wordIn b 4) (wordIn b 5)
-unfolding recordIn
-head c =
-    let b = c .before .before .before .before .before .before .before .args .state .now in
-    let first : recordFrom (wordIn b) 6 ≡ recordIn (stateIn b) 1 = ap {A = Entry} {B = Record} (λ e. e .task) (sym (entry-is (wordIn b) 0 (omega arith))) in
-    c .head-fits .ensures ∙ rw (c .before .before .before .before .record-in .ensures, c .before .before .before .record-in2 .ensures, c .before .before .word-at .ensures, c .before .word-at2 .ensures, ← first)
+-- What was asked of the head is the head's rules.
+asked : (c : tie.After-head-fits)
+    → let a = c .before .before .before .args in c .head-fits .result ≡ headFits (a .head) (recordFrom (a .state .now) headSize)
+asked c = c .head-fits .ensures ∙ ap (headFits (c .before .before .before .args .head)) (c .before .record-in .ensures)
 
-returns : tie.Need-returns
-unfolding encodes
-returns c = rw (ne-eqb _ _ (c .if1 .taken))
+headed : (c : tie.Else1) → let a = c .before .before .before .before .args in headFits (a .head) (recordFrom (a .state .now) headSize) ≡ true
+headed c = sym (asked (c .before)) ∙ not-false _ (c .if1 .left)
+
+few : (c : tie.Else1) → c .before .before .before .before .args .head .n ≤ places
+few c = let a = c .before .before .before .before .args in few-tasks (a .head) (recordFrom (a .state .now) headSize) (headed c)
 
 record-in-requires : tie.Need-record-in-requires
 record-in-requires c κs = search needs
 
-record-in-requires-2 : tie.Need-record-in-requires-2
-record-in-requires-2 c κs = search needs
-
-word-at-requires : tie.Need-word-at-requires
-word-at-requires c κs = search needs
-
-word-at-requires-2 : tie.Need-word-at-requires-2
-word-at-requires-2 c κs = search needs
-
 head-fits-requires : tie.Need-head-fits-requires
 head-fits-requires c κs = search needs
 
-returns-2 : tie.Need-returns-2
-unfolding stateFits
-returns-2 c = rw (sym (head (c .before)) ∙ not-true _ (c .if2 .taken)) (sym (no-more (encodes (c .before .before .before .before .before .before .before .before .args .state .now))))
+returns : tie.Need-returns
+returns c = let k = c .before .before .before .before in rw (fits-parts (k .args .state .now) (k .args .head) (k .pre), sym (asked (c .before)) ∙ not-true _ (c .if1 .taken))
 
-places-fit-in-requires : tie.Need-places-fit-in-requires
-places-fit-in-requires c κs = search needs
+tasks-fit-in-requires : tie.Need-tasks-fit-in-requires
+tasks-fit-in-requires c κs = (c .before .before .before .before .pre .long, few c)
+
+returns-2 : tie.Need-returns-2
+returns-2 c =
+    let k = c .before .before .before .before .before .before in
+    let h = c .before .before in
+    rw (fits-parts (k .args .state .now) (k .args .head) (k .pre), headed h, places-fit (k .args .state .now) (k .args .head) (few h), sym (c .before .tasks-fit-in .ensures) ∙ not-true _ (c .if2 .taken))
+
+spares-blank-requires : tie.Need-spares-blank-requires
+spares-blank-requires c κs = (c .before .before .before .before .before .before .pre .long, few (c .before .before))
 
 returns-3 : tie.Need-returns-3
-unfolding encodes stateFits
-returns-3 c = rw (eq-eqb _ _ (c .before .before .before .before .before .before .before .if1 .left), sym (head (c .before .before)) ∙ not-false _ (c .before .if2 .left)) (c .places-fit-in .ensures ∙ rw (c .before .before .before .before .before .before .record-in .ensures, c .before .before .before .before .word-at .ensures, c .before .before .before .word-at2 .ensures) (every-both _ _ 16))
+returns-3 c =
+    let k = c .before .before .before .before .before .before .before in
+    let h = c .before .before .before in
+    rw (fits-parts (k .args .state .now) (k .args .head) (k .pre), headed h, places-fit (k .args .state .now) (k .args .head) (few h), sym (c .before .before .tasks-fit-in .ensures) ∙ not-false _ (c .before .if2 .left)) (c .spares-blank .ensures)
 
 pub fits-in-spec : {M : Type 1} → statement M
 fits-in-spec =
     tie.close
     (tie.spec
-    returns
     record-in-requires
-    record-in-requires-2
-    word-at-requires
-    word-at-requires-2
     head-fits-requires
+    returns
+    tasks-fit-in-requires
     returns-2
-    places-fit-in-requires
+    spares-blank-requires
     returns-3)

@@ -7,10 +7,10 @@ use native.Mathlib.Nat.{add-zero}
 use native.Mathlib.Omega.{arith}
 use Rattle.scheduler.specs.declared.Tally.{Tally}
 use Rattle.scheduler.specs.Energies.{energyOf}
-use Rattle.scheduler.proofs.NumberLaws.{energy-refused}
+use Rattle.scheduler.proofs.RefusalLaws.{energy-refused}
 use Rattle.node.specs.Calls.{energyOn}
 use Rattle.node.specs.Layout.{tallyIn}
-use Rattle.node.proofs.MovedLaws.{energy-small}
+use Rattle.node.proofs.EnergyLaws.{energy-small}
 use Rattle.node.proofs.node_energy.Statement.{statement}
 use Rattle.node.proofs.node_energy.Tie as tie
 
@@ -21,8 +21,8 @@ returns : tie.Need-returns
 unfolding energyOn
 returns c = rw (ne-eqb _ _ (c .before .if1 .taken)) (c .unfit .ensures)
 
-tally-at-requires : tie.Need-tally-at-requires
-tally-at-requires c κs = search needs
+tally-in-requires : tie.Need-tally-in-requires
+tally-in-requires c κs = search needs
 
 energy-requires : tie.Need-energy-requires
 energy-requires c κs = search needs
@@ -31,7 +31,7 @@ enum-told : tie.Need-enum-told
 enum-told c = search needs
 
 mul-result : tie.Need-mul-result
-mul-result c = let a = c .before .before .before .before .before .before .before .args in rw (c .before .before .before .energy .ensures) (let e = energy-small (c .before .before .before .before .tally-at .result) (a .run) (a .sleep) in omega (arith, e))
+mul-result c = let a = c .before .before .before .before .before .before .before .args in rw (c .before .before .before .energy .ensures) (let e = energy-small (c .before .before .before .before .tally-in .result) (a .run) (a .sleep) in omega (arith, e))
 
 enum-known-answer : tie.Need-enum-known-answer
 enum-known-answer c = search needs
@@ -42,20 +42,20 @@ refused-requires c κs = search needs
 returns-2 : tie.Need-returns-2
 unfolding energyOn
 returns-2 c = let a = c .before .before .before .before .before .before .before .args in
-    let t = c .before .before .before .before .tally-at in
+    let t = c .before .before .before .before .tally-in in
     let e = c .before .before .before .energy in
     let f : e .result ≡ energyOf (tallyIn (a .tally .now)) (a .run) (a .sleep) = e .ensures ∙ ap (λ (x : Tally). energyOf x (a .run) (a .sleep)) (t .ensures) in
-    rw (eq-eqb (length (a .tally .now)) 12 (c .before .before .before .before .before .if1 .left), ← f, c .before .enum-told .given .1) (omega arith)
+    rw (eq-eqb (length (a .tally .now)) 3 (c .before .before .before .before .before .if1 .left), ← f, c .before .enum-told .given .1) (omega arith)
 
 returns-3 : tie.Need-returns-3
 unfolding energyOn
 returns-3 c = let a = c .before .before .before .before .before .before .before .before .args in
-    let t = c .before .before .before .before .before .tally-at in
+    let t = c .before .before .before .before .before .tally-in in
     let e = c .before .before .before .before .energy in
     let r = c .before .before .answer in
     let f : e .result ≡ energyOf (tallyIn (a .tally .now)) (a .run) (a .sleep) = e .ensures ∙ ap (λ (x : Tally). energyOf x (a .run) (a .sleep)) (t .ensures) in
     let z : e .result .nanojoules ≡ 0 = rw f (energy-refused (tallyIn (a .tally .now)) (a .run) (a .sleep) (r .given .0 .0) (rw (← f) (r .given .1)) .0) in
-    rw (eq-eqb (length (a .tally .now)) 12 (c .before .before .before .before .before .before .if1 .left), ← f, z, r .given .1) (c .refused .ensures ∙ sym (add-zero _))
+    rw (eq-eqb (length (a .tally .now)) 3 (c .before .before .before .before .before .before .if1 .left), ← f, z, r .given .1) (c .refused .ensures ∙ sym (add-zero _))
 
 pub node-energy-spec : {M : Type 1} → statement M
 node-energy-spec =
@@ -63,7 +63,7 @@ node-energy-spec =
     (tie.spec
     unfit-requires
     returns
-    tally-at-requires
+    tally-in-requires
     energy-requires
     enum-told
     mul-result

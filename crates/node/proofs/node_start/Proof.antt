@@ -1,10 +1,16 @@
 -- `node::node_start` meets its contract: the table first, then the buffer.
 use borrow.Author.Needs.{needs}
 use borrow.Author.Tests.{eq-eqb, ne-eqb}
-use lib.ListN.{length}
-use mathlib.Core.Path.{refl}
+use mathlib.Core.Path.{_≡_, refl}
+use Rattle.scheduler.specs.declared.Answer.{Answer}
+use Rattle.node.specs.Calls.{startOn, startedOn}
 use Rattle.node.proofs.node_start.Statement.{statement}
 use Rattle.node.proofs.node_start.Tie as tie
+
+-- `started` says what the call gives, by the start's answer.
+started : (c : tie.After-start) (answer : Answer) → c .start .result .answer ≡ answer
+    → let a = c .before .before .before .args in startOn (a .table .now) (a .state .now) ≡ startedOn (c .start .result) (a .state .now) answer
+started c answer e = rw (← c .start .ensures, e)
 
 start-requires : tie.Need-start-requires
 start-requires c κs = search needs
@@ -16,8 +22,7 @@ unfit-requires : tie.Need-unfit-requires
 unfit-requires c κs = search needs
 
 returns : tie.Need-returns
-returns c = let a = c .before .before .before .before .before .before .before .args in
-    rw (← c .before .before .before .before .start .ensures, c .before .before .enum-told .given .1, ne-eqb (length (a .state .now)) 600 (c .before .if1 .taken)) (c .unfit .ensures, refl)
+returns c = rw (started (c .before .before .before .before) _ (c .before .before .enum-told .given .1), ne-eqb _ _ (c .before .if1 .taken)) (c .unfit .ensures, refl)
 
 put-state-requires : tie.Need-put-state-requires
 put-state-requires c κs = search needs
@@ -32,11 +37,10 @@ same-length : tie.Need-same-length
 same-length c = search needs
 
 returns-2 : tie.Need-returns-2
-returns-2 c = let a = c .before .before .before .before .before .before .before .before .before .before .args in
-    rw (← c .before .before .before .before .before .before .before .start .ensures, c .before .before .before .before .before .enum-told .given .1, eq-eqb (length (a .state .now)) 600 (c .before .before .before .before .if1 .left)) (refl, c .before .before .put-state .ensures)
+returns-2 c = rw (started (c .before .before .before .before .before .before .before) _ (c .before .before .before .before .before .enum-told .given .1), eq-eqb _ _ (c .before .before .before .before .if1 .left)) (refl, c .before .before .put-state .ensures)
 
 returns-3 : tie.Need-returns-3
-returns-3 c = rw (← c .before .before .before .before .start .ensures, c .before .before .answer .given .1) (c .refused .ensures, refl)
+returns-3 c = rw (started (c .before .before .before .before) _ (c .before .before .answer .given .1)) (c .refused .ensures, refl)
 
 pub node-start-spec : {M : Type 1} → statement M
 node-start-spec =

@@ -1,44 +1,44 @@
--- `node::place_fits_in` meets its contract: a spare place is nine words that are 0.
+-- `node::place_fits_in` meets its contract.
 use borrow.Author.Needs.{needs}
-use borrow.Author.Tests.{le-ltb, not-true, not-false}
-use mathlib.Core.Path.{sym, _∙_}
+use borrow.Author.Tests.{not-true, not-false}
+use mathlib.Core.Path.{sym, _∙_, ap}
 use native.Mathlib.Omega.{arith}
-use Prim.Native.Nat.{_+_, _*_}
-use Rattle.node.specs.Words.{wordIn}
-use Rattle.node.proofs.LayoutLaws.{entry-is, spare-blank}
+use Rattle.scheduler.specs.States.{placeFits}
+use Rattle.node.proofs.LayoutLaws.{entry-is}
 use Rattle.node.proofs.place_fits_in.Statement.{statement}
 use Rattle.node.proofs.place_fits_in.Tie as tie
 
-blank-requires : tie.Need-blank-requires
-blank-requires c κs = search needs
+mul-at : tie.Need-mul-at
+mul-at c = search needs
+
+add-at : tie.Need-add-at
+add-at c = search needs
+
+place-encoded-requires : tie.Need-place-encoded-requires
+place-encoded-requires c κs = search needs
 
 returns : tie.Need-returns
-returns c = let a = c .before .before .before .args in
-    rw (le-ltb (a .i) (a .n) (c .before .if1 .taken), entry-is (wordIn (a .state .now)) (a .i) (omega arith)) (c .blank .ensures ∙ sym (spare-blank (wordIn (a .state .now)) (6 + 9 * a .i)))
+returns c = rw (sym (c .before .place-encoded .ensures) ∙ not-true _ (c .if1 .taken))
 
-codes-requires : tie.Need-codes-requires
-codes-requires c κs = search needs
-
-returns-2 : tie.Need-returns-2
-returns-2 c = rw (sym (c .before .codes .ensures) ∙ not-true _ (c .if2 .taken))
-
-place-at-requires : tie.Need-place-at-requires
-place-at-requires c κs = search needs
+entry-in-requires : tie.Need-entry-in-requires
+entry-in-requires c κs = search needs
 
 place-fits-requires : tie.Need-place-fits-requires
 place-fits-requires c κs = search needs
 
-returns-3 : tie.Need-returns-3
-returns-3 c = rw (sym (c .before .before .before .codes .ensures) ∙ not-false _ (c .before .before .if2 .left)) (c .place-fits .ensures ∙ rw (c .before .place-at .ensures))
+returns-2 : tie.Need-returns-2
+returns-2 c = let a = c .before .before .before .before .before .args in
+    rw (sym (c .before .before .before .place-encoded .ensures) ∙ not-false _ (c .before .before .if1 .left))
+    (c .place-fits .ensures ∙ ap (placeFits (a .head) (a .i) (a .above)) (c .before .entry-in .ensures ∙ sym (entry-is (a .state .now) (a .i) (omega arith))))
 
 pub place-fits-in-spec : {M : Type 1} → statement M
 place-fits-in-spec =
     tie.close
     (tie.spec
-    blank-requires
+    mul-at
+    add-at
+    place-encoded-requires
     returns
-    codes-requires
-    returns-2
-    place-at-requires
+    entry-in-requires
     place-fits-requires
-    returns-3)
+    returns-2)

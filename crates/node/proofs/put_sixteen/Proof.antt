@@ -1,24 +1,29 @@
 -- `node::put_sixteen` meets its contract: what was put so far are the first i words.
 use borrow.Author.Needs.{needs}
-use lib.ListN.{getD}
-use mathlib.Core.Path.{_≡_, refl, sym, _∙_}
+use lib.ListN.{length, getD}
+use mathlib.Core.Path.{_≡_, refl, sym}
 use native.Mathlib.Omega.{arith}
 use Prim.Native.Nat.{_-_, _≤_}
-use Rattle.node.specs.Words.{putWords}
-use Rattle.node.specs.Layout.{listFrom}
+use Rattle.table.specs.Sound.{places}
+use Rattle.node.specs.Words.{puts}
+use Rattle.base.specs.List.{listFrom}
 use Rattle.node.proofs.WordLaws.{length-puts}
-use Rattle.node.proofs.PutLaws.{one-more-put}
+use Rattle.node.proofs.LayoutLaws.{one-more-put}
 use Rattle.node.proofs.put_sixteen.Statement.{statement}
 use Rattle.node.proofs.put_sixteen.Tie as tie
 
 abbrev Inv-loop : tie.InvT-loop
-Inv-loop out₀ k words i₀ out i = (i ≤ 16) × (out ≡ putWords out₀ k (listFrom (λ j. getD words j 0) i))
+Inv-loop out₀ k words i₀ out i = (i ≤ places) × (out ≡ puts out₀ k 0 (listFrom (λ j. getD words j 0) i))
 
 abbrev μ-loop : tie.MeasureT-loop
-μ-loop out₀ k words i₀ out i = 16 - i
+μ-loop out₀ k words i₀ out i = places - i
+
+-- What is put changes no length.
+long : (c : tie.In-loop Inv-loop μ-loop) → length (c .before .loop .out) ≡ length (c .before .before .args .out .now)
+long c = let l = c .before .loop in let a = c .before .before .args in rw (l .inv .1) (length-puts (a .out .now) (a .k) 0 (listFrom (λ j. getD (a .t3) j 0) (l .i)))
 
 loop-holds : tie.Need-loop-holds Inv-loop μ-loop
-unfolding putWords listFrom
+unfolding listFrom
 loop-holds c = (omega arith, refl)
 
 mul-w : tie.Need-mul-w Inv-loop μ-loop
@@ -27,14 +32,14 @@ mul-w c = search needs
 array-read-w : tie.Need-array-read-w Inv-loop μ-loop
 array-read-w c = search needs
 
-add-put-word : tie.Need-add-put-word Inv-loop μ-loop
-add-put-word c = search needs
+add-out : tie.Need-add-out Inv-loop μ-loop
+add-out c = search needs
 
-mul-put-word : tie.Need-mul-put-word Inv-loop μ-loop
-mul-put-word c = search needs
+mul-out : tie.Need-mul-out Inv-loop μ-loop
+mul-out c = search needs
 
-put-word-requires : tie.Need-put-word-requires Inv-loop μ-loop
-put-word-requires c κs = search needs
+slice-write-out : tie.Need-slice-write-out Inv-loop μ-loop
+slice-write-out c = omega (arith, long c)
 
 add-i : tie.Need-add-i Inv-loop μ-loop
 add-i c = search needs
@@ -43,13 +48,13 @@ loop-less : tie.Need-loop-less Inv-loop μ-loop
 loop-less c = search needs
 
 loop-again : tie.Need-loop-again Inv-loop μ-loop
-loop-again c = let l = c .before .before .before .before .before .loop in let a = c .before .before .before .before .before .before .before .args in (omega arith, c .before .before .put-word .ensures ∙ rw (l .inv .1) (sym (one-more-put (a .out .now) (a .k) (λ j. getD (a .t3) j 0) (l .i))))
+loop-again c = let l = c .before .loop in let a = c .before .before .args in (omega arith, rw (l .inv .1) (sym (one-more-put (a .out .now) (a .k) (λ j. getD (a .t3) j 0) (l .i))))
 
 same-length : tie.Need-same-length Inv-loop μ-loop
-same-length c = let a = c .before .before .before .args in let l = c .before .loop in rw (l .inv .1) (length-puts (a .out .now) (a .k) (listFrom (λ j. getD (a .t3) j 0) (l .i)))
+same-length c = let l = c .before .loop in let a = c .before .before .args in rw (l .inv .1) (length-puts (a .out .now) (a .k) 0 (listFrom (λ j. getD (a .t3) j 0) (l .i)))
 
 returns : tie.Need-returns Inv-loop μ-loop
-returns c = let l = c .before .loop in let e : l .i ≡ 16 = omega arith in rw e at (l .inv .1)
+returns c = let l = c .before .loop in let e : l .i ≡ places = omega arith in rw e at (l .inv .1)
 
 pub put-sixteen-spec : {M : Type 1} → statement M
 put-sixteen-spec =
@@ -60,9 +65,9 @@ put-sixteen-spec =
     loop-holds
     mul-w
     array-read-w
-    add-put-word
-    mul-put-word
-    put-word-requires
+    add-out
+    mul-out
+    slice-write-out
     add-i
     loop-less
     loop-again

@@ -1,36 +1,41 @@
 -- `node::put_state` meets its contract: the head, then the words of the first i places.
 use borrow.Author.Needs.{needs}
-use lib.ListN.{length}
-use mathlib.Core.Path.{_≡_, refl, sym, _∙_, ap}
+use lib.ListN.{length, set, length-set}
+use mathlib.Core.Path.{_≡_, refl, sym, _∙_}
 use native.Mathlib.Omega.{arith}
 use Prim.Native.Nat.{_-_, _≤_}
-use Rattle.node.specs.Words.{putWords, Octets}
+use Rattle.table.specs.Sound.{places}
+use Rattle.node.specs.Words.{puts}
+use Rattle.node.specs.Layout.{headSize, nAt, clockAt, stateSize, placesWords}
 use Rattle.node.proofs.WordLaws.{length-puts}
-use Rattle.node.proofs.PutLaws.{placesWords, place-more-put, state-put}
+use Rattle.node.proofs.LayoutLaws.{place-more-put, state-put}
 use Rattle.node.proofs.put_state.Statement.{statement}
 use Rattle.node.proofs.put_state.Tie as tie
 
 abbrev Inv-loop : tie.InvT-loop
-Inv-loop out₀ entries i₀ out i = (i ≤ 16) × (out ≡ putWords out₀ 6 (placesWords entries i))
+Inv-loop out₀ entries i₀ out i = (i ≤ places) × (out ≡ puts out₀ 0 headSize (placesWords entries i))
 
 abbrev μ-loop : tie.MeasureT-loop
-μ-loop out₀ entries i₀ out i = 16 - i
+μ-loop out₀ entries i₀ out i = places - i
+
+-- The words at a turn are as many as at entry.
+long : (c : tie.At-loop Inv-loop μ-loop) → length (c .loop .out) ≡ stateSize
+long c =
+    let k = c .before .before .before .before in
+    let a = k .before .before .before .before in
+    rw (c .loop .inv .1) (length-puts _ 0 headSize (placesWords (a .args .s .entries) (c .loop .i)) ∙ simp length-set (k .put-record .kept .0 ∙ a .pre))
 
 put-record-requires : tie.Need-put-record-requires Inv-loop μ-loop
 put-record-requires c κs = search needs
 
-put-word-requires : tie.Need-put-word-requires Inv-loop μ-loop
-put-word-requires c κs = search needs
+slice-write-out : tie.Need-slice-write-out Inv-loop μ-loop
+slice-write-out c = search needs
 
-put-word-requires-2 : tie.Need-put-word-requires-2 Inv-loop μ-loop
-put-word-requires-2 c κs = search needs
-
--- the bytes at entry are bytes
-octets : (c : tie.After-slice-known Inv-loop μ-loop) → Octets (c .before .args .out .now)
-octets c = record { below = λ i. c .slice-known .given i .fits }
+slice-write-out-2 : tie.Need-slice-write-out-2 Inv-loop μ-loop
+slice-write-out-2 c = simp length-set (omega arith)
 
 loop-holds : tie.Need-loop-holds Inv-loop μ-loop
-unfolding putWords placesWords
+unfolding placesWords
 loop-holds c = (omega arith, refl)
 
 mul-e : tie.Need-mul-e Inv-loop μ-loop
@@ -46,7 +51,7 @@ add-put-entry : tie.Need-add-put-entry Inv-loop μ-loop
 add-put-entry c = search needs
 
 put-entry-requires : tie.Need-put-entry-requires Inv-loop μ-loop
-put-entry-requires c κs = search needs
+put-entry-requires c κs = omega (arith, long (c .before .before .before))
 
 add-i : tie.Need-add-i Inv-loop μ-loop
 add-i c = search needs
@@ -55,13 +60,22 @@ loop-less : tie.Need-loop-less Inv-loop μ-loop
 loop-less c = search needs
 
 loop-again : tie.Need-loop-again Inv-loop μ-loop
-loop-again c = let l = c .before .before .before .before .before .before .loop in let o = c .before .before .before .before .before .before .before .before .before .before .put-word2 .last .0 in let a = c .before .before .before .before .before .before .before .before .before .before .before .before .before .before .before .before .before .before .before .before .before .before .args in (omega arith, c .before .before .put-entry .ensures ∙ rw (l .inv .1) (sym (place-more-put o (a .s .entries) (l .i))))
+loop-again c =
+    let l = c .before .before .before .before .before .before in
+    let k = l .before .before .before .before in
+    let s = k .before .before .before .before .args .s in
+    (omega arith, c .before .before .put-entry .ensures ∙ rw (l .loop .inv .1) (sym (place-more-put (set (set (k .put-record .last .0) nAt (s .n)) clockAt (s .clock)) (s .entries) (l .loop .i))))
 
 same-length : tie.Need-same-length Inv-loop μ-loop
-same-length c = let l = c .before .loop in let a = c .before .before .before .before .before .before .before .before .before .before .before .before .before .before .before .before .before .args in ap length (l .inv .1) ∙ length-puts (c .before .before .before .before .before .put-word2 .last .0) 6 (placesWords (a .s .entries) (l .i)) ∙ (c .before .before .before .before .before .put-word2 .kept .0 ∙ c .before .before .before .before .before .before .before .before .before .put-word .kept .0 ∙ c .before .before .before .before .before .before .before .before .before .before .before .before .before .put-record .kept .0)
+same-length c = long (c .before) ∙ sym (c .before .before .before .before .before .before .before .before .before .pre)
 
 returns : tie.Need-returns Inv-loop μ-loop
-returns c = let l = c .before .loop in let e : l .i ≡ 16 = omega arith in let k = c .before .before .before .before .before .before .before .before .before .before .before .before .before .before .before .before in rw (rw e at (l .inv .1), c .before .before .before .before .before .put-word2 .ensures, c .before .before .before .before .before .before .before .before .before .put-word .ensures, c .before .before .before .before .before .before .before .before .before .before .before .before .before .put-record .ensures) (state-put (k .before .args .out .now) (k .before .args .s) (k .before .pre) (octets k))
+returns c =
+    let l = c .before .loop in
+    let k = c .before .before .before .before .before in
+    let a = k .before .before .before .before in
+    let e : l .i ≡ places = omega arith in
+    (rw e at (l .inv .1)) ∙ rw (k .put-record .ensures) (state-put (a .args .out .now) (a .args .s) (a .pre))
 
 pub put-state-spec : {M : Type 1} → statement M
 put-state-spec =
@@ -70,8 +84,8 @@ put-state-spec =
     Inv-loop
     μ-loop
     put-record-requires
-    put-word-requires
-    put-word-requires-2
+    slice-write-out
+    slice-write-out-2
     loop-holds
     mul-e
     array-copy-out-e

@@ -1,15 +1,10 @@
--- `node::raise` meets its contract: the count of the tick, one up.
+-- `node::raise` meets its contract: a count, one up.
 use borrow.Author.Needs.{needs}
 use mathlib.Core.Path.{_∙_}
-use Rattle.node.specs.Words.{Octets}
-use Rattle.node.proofs.PutLaws.{count-put}
-use Rattle.scheduler.specs.declared.Tick.the-variants.{Run, Slot, Tail}
+use Rattle.scheduler.specs.declared.Count.the-variants.{Runs, Slots, Tails}
+use Rattle.node.proofs.LayoutLaws.{count-put}
 use Rattle.node.proofs.raise.Statement.{statement}
 use Rattle.node.proofs.raise.Tie as tie
-
--- the bytes at entry are bytes
-octets : (c : tie.After-slice-known) → Octets (c .before .args .tally .now)
-octets c = record { below = λ i. c .slice-known .given i .fits }
 
 enum-told : tie.Need-enum-told
 enum-told c = search needs
@@ -33,19 +28,19 @@ same-length : tie.Need-same-length
 same-length c = search needs
 
 returns : tie.Need-returns
-returns c = let k = c .before .before .before .before .before .before in let a = k .before .args in rw (c .before .before .before .before .enum-told .given .1) (c .before .before .raise-word .ensures ∙ count-put (a .tally .now) (Run 0) (k .before .pre .0) (octets k))
+returns c = let k = c .before .before .before .before .before .before .before in rw (c .before .before .before .before .enum-told .given .1) (c .before .before .raise-word .ensures ∙ count-put (k .args .tally .now) Runs (k .pre .0))
 
 same-length-2 : tie.Need-same-length-2
 same-length-2 c = search needs
 
 returns-2 : tie.Need-returns-2
-returns-2 c = let k = c .before .before .before .before .before .before in let a = k .before .args in rw (c .before .before .before .before .enum-told2 .given .1) (c .before .before .raise-word2 .ensures ∙ count-put (a .tally .now) Slot (k .before .pre .0) (octets k))
+returns-2 c = let k = c .before .before .before .before .before .before .before in rw (c .before .before .before .before .enum-told2 .given .1) (c .before .before .raise-word2 .ensures ∙ count-put (k .args .tally .now) Slots (k .pre .0))
 
 same-length-3 : tie.Need-same-length-3
 same-length-3 c = search needs
 
 returns-3 : tie.Need-returns-3
-returns-3 c = let k = c .before .before .before .before .before .before in let a = k .before .args in rw (c .before .before .before .before .enum-told3 .given .1) (c .before .before .raise-word3 .ensures ∙ count-put (a .tally .now) Tail (k .before .pre .0) (octets k))
+returns-3 c = let k = c .before .before .before .before .before .before .before in rw (c .before .before .before .before .enum-told3 .given .1) (c .before .before .raise-word3 .ensures ∙ count-put (k .args .tally .now) Tails (k .pre .0))
 
 pub raise-spec : {M : Type 1} → statement M
 raise-spec =

@@ -6,11 +6,11 @@ use Rattle.node.proofs.refused.Tie as tie
 tell-requires : tie.Need-tell-requires
 tell-requires c κs = search needs
 
-told-answer-requires : tie.Need-told-answer-requires
-told-answer-requires c κs = search needs
+answer-of-requires : tie.Need-answer-of-requires
+answer-of-requires c κs = search needs
 
 returns : tie.Need-returns
-returns c = rw (← c .before .tell .ensures) (c .told-answer .ensures)
+returns c = rw (← c .before .tell .ensures) (c .answer-of .ensures)
 
 pub refused-spec : {M : Type 1} → statement M
-refused-spec = tie.close (tie.spec tell-requires told-answer-requires returns)
+refused-spec = tie.close (tie.spec tell-requires answer-of-requires returns)

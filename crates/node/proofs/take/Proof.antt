@@ -1,13 +1,13 @@
--- `node::take` meets its contract: the job and the last release of one place.
+-- `node::take` meets its contract: the words of one place, its job and last release anew.
 use borrow.Author.Needs.{needs}
-use Rattle.node.specs.Words.{Octets}
-use Rattle.node.proofs.PutLaws.{release-put}
+use mathlib.Core.Path.{_≡_, _∙_, ap}
+use native.Mathlib.Omega.{arith}
+use Prim.Native.Nat.{_-_}
+use Rattle.scheduler.specs.declared.Head.{Head}
+use Rattle.node.specs.Layout.{clockAt, wordIn}
+use Rattle.node.proofs.LayoutLaws.{release-put}
 use Rattle.node.proofs.take.Statement.{statement}
 use Rattle.node.proofs.take.Tie as tie
-
--- the bytes at entry are bytes
-octets : (c : tie.After-slice-known) → Octets (c .before .args .state .now)
-octets c = record { below = λ i. c .slice-known .given i .fits }
 
 sub-at : tie.Need-sub-at
 sub-at c = search needs
@@ -21,20 +21,21 @@ mul-at c = search needs
 add-at : tie.Need-add-at
 add-at c = search needs
 
-put-job-requires : tie.Need-put-job-requires
-put-job-requires c κs = search needs
+record-in-requires : tie.Need-record-in-requires
+record-in-requires c κs = search needs
 
-add-put-last : tie.Need-add-put-last
-add-put-last c = search needs
-
-put-last-requires : tie.Need-put-last-requires
-put-last-requires c κs = search needs
+put-entry-requires : tie.Need-put-entry-requires
+put-entry-requires c κs = search needs
 
 same-length : tie.Need-same-length
 same-length c = search needs
 
 returns : tie.Need-returns
-returns c = let k = c .before .before .before .before .before .before .before .before in let a = k .before .args in let p = k .before .pre in rw (c .before .before .put-last .ensures, c .before .before .before .before .before .before .put-job .ensures, p .3) (release-put (a .state .now) (a .task) (a .demand) (p .0) (octets k) (p .1) (p .2))
+returns c =
+    let k = c .before .before .before .before .before .before .before in
+    let a = k .args in
+    let clock : a .head .clock ≡ wordIn (a .state .now) clockAt = ap {A = Head} (λ h. h .clock) (k .pre .0 .head-is) in
+    c .before .before .put-entry .ensures ∙ rw (c .before .before .before .before .record-in .ensures, clock) (release-put (a .state .now) (a .task - 1) (a .demand) (k .pre .1) (omega arith))
 
 pub take-spec : {M : Type 1} → statement M
 take-spec =
@@ -44,8 +45,7 @@ take-spec =
     cast-at
     mul-at
     add-at
-    put-job-requires
-    add-put-last
-    put-last-requires
+    record-in-requires
+    put-entry-requires
     same-length
     returns)

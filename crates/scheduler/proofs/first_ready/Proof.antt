@@ -1,4 +1,4 @@
--- `scheduler::first_ready` meets its contract: what is left of the search, from i on, finds what the whole search finds.
+-- `scheduler::first_ready` meets its contract: the rest of the search, from i on, finds what the whole search finds.
 use Prim.Native.Nat.{ℕ, _-_, _≤_}
 use borrow.Author.Needs.{needs}
 use lib.ListN.{getD}
@@ -6,14 +6,15 @@ use mathlib.Core.Bool.{Bool}
 use mathlib.Core.List.{List}
 use mathlib.Core.Path.{_≡_, sym, _∙_}
 use native.Mathlib.Omega.{arith}
+use Rattle.base.specs.First.{firstFrom}
+use Rattle.base.proofs.FirstLaws.{first-on, first-here, first-end}
 use Rattle.scheduler.specs.States.{noEntry}
 use Rattle.scheduler.specs.Steps.{came}
 use Rattle.scheduler.specs.declared.Entry.{Entry}
-use Rattle.theory.specs.First.{firstFrom, first-on, first-here, first-end}
 use Rattle.scheduler.proofs.first_ready.Statement.{statement}
 use Rattle.scheduler.proofs.first_ready.Tie as tie
 
--- the test of place i
+-- `camePlace` is the test of place i.
 abbrev camePlace : ℕ → List Entry → ℕ → Bool
 camePlace boundary entries i = came boundary (getD entries i noEntry .job)
 

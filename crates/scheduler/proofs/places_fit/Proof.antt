@@ -8,26 +8,28 @@ use mathlib.Core.List.{List}
 use mathlib.Core.Path.{_≡_, refl, sym, _∙_}
 use native.Mathlib.Numerals.{add-one}
 use native.Mathlib.Omega.{arith}
-use Rattle.scheduler.proofs.EveryLaws.{every-more, every-not}
-use Rattle.scheduler.specs.States.{noEntry, every, periodBefore, placeFits}
+use Rattle.base.specs.Every.{every}
+use Rattle.base.proofs.EveryLaws.{every-more, every-not}
+use Rattle.scheduler.specs.States.{noEntry, periodBefore, placeFits}
 use Rattle.scheduler.specs.declared.Entry.{Entry}
+use Rattle.scheduler.specs.declared.Head.{Head}
 use Rattle.scheduler.proofs.places_fit.Statement.{statement}
 use Rattle.scheduler.proofs.places_fit.Tie as tie
 
--- the test of place i
-abbrev place : ℕ → ℕ → ℕ → List Entry → ℕ → Bool
-place n h clock entries i = placeFits n i (periodBefore entries i) h clock (getD entries i noEntry)
+-- `place` is the test of place i.
+abbrev place : Head → List Entry → ℕ → Bool
+place head entries i = placeFits head i (periodBefore entries i) (getD entries i noEntry)
 
 abbrev Inv-loop : tie.InvT-loop
-Inv-loop n h clock entries above₀ i₀ above i =
-    (i ≤ 16) × (above ≡ periodBefore entries i) × (every (place n h clock entries) i ≡ true)
+Inv-loop head entries above₀ i₀ above i =
+    (i ≤ 16) × (above ≡ periodBefore entries i) × (every (place head entries) i ≡ true)
 
 abbrev μ-loop : tie.MeasureT-loop
-μ-loop n h clock entries above₀ i₀ above i = 16 - i
+μ-loop head entries above₀ i₀ above i = 16 - i
 
--- what was asked of place i
+-- What was asked of place i is the definition's test.
 asked : (c : tie.After-place-fits Inv-loop μ-loop)
-    → c .place-fits .result ≡ place (c .before .before .before .before .args .n) (c .before .before .before .before .args .h) (c .before .before .before .before .args .clock) (c .before .before .before .before .args .t1) (c .before .before .before .loop .i)
+    → let a = c .before .before .before .before .args in c .place-fits .result ≡ place (a .head) (a .t2) (c .before .before .before .loop .i)
 asked c = c .place-fits .ensures ∙ rw (c .before .before .before .loop .inv .1)
 
 loop-holds : tie.Need-loop-holds Inv-loop μ-loop

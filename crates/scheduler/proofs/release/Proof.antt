@@ -1,4 +1,4 @@
--- `scheduler::release` meets its contract: a refused release changes nothing; an accepted one is of a task that there is.
+-- `scheduler::release` meets its contract: a refused release changes nothing; an accepted one is of an existing task.
 use borrow.Author.Needs.{needs}
 use mathlib.Core.Path.{sym, _∙_}
 use native.Mathlib.Omega.{arith}
@@ -6,12 +6,12 @@ use Rattle.scheduler.proofs.ReleaseLaws.{Free-task, accepted-says}
 use Rattle.scheduler.proofs.release.Statement.{statement}
 use Rattle.scheduler.proofs.release.Tie as tie
 
--- what an accepted release says of its task
+-- An accepted release says that its task is free.
 free : (c : tie.After-enum-told) → Free-task (c .before .before .before .args .t1) (c .before .before .before .args .task) (c .before .before .before .args .demand)
-free c = accepted-says _ _ _ (sym (c .before .before .may-release .ensures) ∙ c .enum-told .given .1)
+free c = accepted-says _ _ _ (sym (c .before .before .release-answer .ensures) ∙ c .enum-told .given .1)
 
-may-release-requires : tie.Need-may-release-requires
-may-release-requires c κs = search needs
+release-answer-requires : tie.Need-release-answer-requires
+release-answer-requires c κs = search needs
 
 enum-known-answer : tie.Need-enum-known-answer
 enum-known-answer c = search needs
@@ -38,16 +38,16 @@ element-set-from-f : tie.Need-element-set-from-f
 element-set-from-f c = omega (arith, free (c .before .before))
 
 returns : tie.Need-returns
-returns c = rw (← c .before .before .before .may-release .ensures, c .before .answer .given .1)
+returns c = rw (← c .before .before .before .release-answer .ensures, c .before .answer .given .1)
 
 returns-2 : tie.Need-returns-2
-returns-2 c = rw (← c .before .before .before .before .may-release .ensures, c .before .before .enum-told .given .1)
+returns-2 c = rw (← c .before .before .before .before .release-answer .ensures, c .before .before .enum-told .given .1)
 
 pub release-spec : {M : Type 1} → statement M
 release-spec =
     tie.close
     (tie.spec
-    may-release-requires
+    release-answer-requires
     enum-known-answer
     enum-told
     sub-at

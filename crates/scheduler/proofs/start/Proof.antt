@@ -1,4 +1,4 @@
--- `scheduler::start` meets its contract: the fresh state of a sound table, or no state.
+-- `scheduler::start` meets its contract: it returns the fresh state of a sound table, or no state.
 use borrow.Author.Needs.{needs}
 use lib.ListN.{replicate}
 use mathlib.Core.Path.{sym, _∙_}

@@ -1,6 +1,6 @@
--- `scheduler::step` meets its contract: a walk of its MIR, by hand. The borrow is opened, the tally behind it is copied and
--- passed to `step_on` with the state, the tally that `step_on` returns is stored over it, the borrow is closed at that, and
--- answer and state are returned. All that is known of `step_on` is that it meets its contract.
+-- `scheduler::step` meets its contract, by a walk of its MIR, by hand. The borrow is opened, the borrowed tally is
+-- copied and passed to `step_on` with the state, the tally that `step_on` returns is stored over it, the borrow is
+-- closed at that, and answer and state are returned. All that is known of `step_on` is that it meets its contract.
 use mathlib.Core.Path.{_≡_, refl, ap}
 use Prim.Native.Nat.{ℕ}
 use mathlib.Core.List.{[], _∷_, List}
@@ -65,21 +65,21 @@ stayed = (stay-none (λ _. S.the-row) yes, (stay-ref (0 ∷ []) tt (plain (λ _.
 abbrev R : RattleType
 R = T.the-row
 
--- the scheduler values
+-- `state-vals` and `vals` are the values of a state and of a tally.
 abbrev state-vals : State → List Val
 state-vals = LL.vals S.the-type S′.the-laws
 
 abbrev vals : Tally → List Val
 vals = LL.vals T.the-type T′.the-laws
 
--- answer and state without the tally
+-- `stepped` is answer and state without the tally.
 abbrev stepped : Moved → Stepped
 stepped r = record { answer = r .answer; state = r .state }
 
 abbrev stepped-val : Moved → Val
 stepped-val r = LL.val St.the-type St′.the-laws (stepped r)
 
--- the contract that the proof cites
+-- `StepOn` is the contract that the proof cites.
 abbrev StepOn : {M : Type 1} (𝓤 : URA M) (H : Heap 𝓤) (A : Atoms 𝓤) (mem : Memory → SProp 𝓤) (run : Routine → Fun 𝓤) → Contract 𝓤
 StepOn 𝓤 H A mem run = tripleOf 𝓤 H A step-on.signature (step-on.spec 𝓤 H A mem run)
 
@@ -101,7 +101,7 @@ module _ {M : Type 1} (𝓤 : URA M) (H : Heap 𝓤) (A : Atoms 𝓤) (W : Given
       frame ! $ feqI ! (List Val) (vptr b o ∷ []) (vptr b o ∷ []) refl $ fjoin3 ! $ nothing ! $ move ! (1 ∷ 0 ∷ []) $ fjoin ! $ owned ! S.the-row (Is S.the-row) (LL.makes S.the-type S′.the-plain 𝓤 H A) s _ s-is $ fjoin ! $
       owned ! St.the-row (Is St.the-row) (LL.makes St.the-type St′.the-plain 𝓤 H A) (stepped r) _ is $ move ! (1 ∷ 0 ∷ []) $ done !
 
-  -- what `step_on`'s triple binds outside, and what it asks
+  -- `to-step` is what `step_on`'s triple binds outside, and `goes-step` proves what it asks.
   abbrev to-step : StepOn 𝓤 H A at-mem run .Ghost
   to-step = ((tt, tt, tt, (s, (h, tt)), (state-vals s, (vals h, tt))), tt)
 
@@ -110,11 +110,11 @@ module _ {M : Type 1} (𝓤 : URA M) (H : Heap 𝓤) (A : Atoms 𝓤) (W : Given
       qed W (‵ ftrue ∷ []) ∵ nothing ! $ owned ! R (Is R) (LL.makes T.the-type T′.the-plain 𝓤 H A) h _ was $ fjoin ! $
       owned ! S.the-row (Is S.the-row) (LL.makes S.the-type S′.the-plain 𝓤 H A) s _ s-is $ fjoin ! $ move ! (1 ∷ 0 ∷ []) $ join ! $ frame ! $ done !
 
-  -- of what it ensures, the clause alone
+  -- `step-of` takes the clause alone from what `step_on` ensures.
   step-of : (r : Moved) → ent 𝓤 (ensured 𝓤 H A step-on.ended (step-on.clauses 𝓤 H A at-mem run) tt (s, (h, tt)) tt r) (fact 𝓤 (r ≡ stepOf s h))
   step-of r = exE 𝓤 _ (λ ws. snd∗ 𝓤 (sem 𝓤 H A (lasts step-on.ended tt (s, (h, tt)) ws)) (fact 𝓤 (r ≡ stepOf s h)))
 
-  -- what whoever holds the result knows of its fields
+  -- Whoever holds the result knows this of its fields.
   tally-is : (r : Moved) (v : Val) → Is Mv.the-row r (v ∷ []) → Is R (r .tally) (vals (r .tally))
   tally-is r v is = LL.owed Mv.the-type Mv′.the-laws r (v ∷ []) is .1 .0
 
@@ -126,26 +126,26 @@ module _ {M : Type 1} (𝓤 : URA M) (H : Heap 𝓤) (A : Atoms 𝓤) (W : Given
     walk =
         qed W ((‵ (flft κ q) ⊛ ‵ ftrue) ∷ ‵ (owns (S.the-row ∷ MutRef (named 0) κ R ∷ []) x at) ∷ []) ∵ split ! $ move ! (2 ∷ []) $ fsplit ! $ drop ! $ fsplit ! $
         fsplit3 ! $ drop ! $ move ! (0 ∷ 1 ∷ 3 ∷ []) $
-        -- [obs; the borrow; the token; true; true]
+        -- The context is [obs; the borrow; the token; true; true].
         enter ! C Λ code.function (LL.val S.the-type S′.the-laws s ∷ vptr b o ∷ []) _ $
         alloc1 ! (λ l₀. alloc1 ! (λ l₁. alloc1 ! (λ l₂. alloc1 ! (λ l₃. alloc1 ! (λ l₄. alloc0 ! $ params1 ! $ pass1 ! (init ! 6 refl (LL.lawful S.the-type S′.the-laws 𝓤 H A W .typed s _ s-is .0)) $ pass1 ! (init ! 4 refl (tt, tt)) $ pass0 ! $
         move ! (10 ∷ 11 ∷ 12 ∷ []) $ opens ! tt R {h = h} b o (λ vs. spelt ! R (Is R) (shows 𝓤 H A R) vals (LL.tells T.the-type T′.the-laws) fullShare h vs b o $
         move ! (1 ∷ []) $ peeks ! R (Is R) (shows 𝓤 H A R) h (vals h) (λ was. drop ! $
-        -- [the tally's cell; the open borrow; obs; auth; _4; …; _3; …; _2; …; _1; …; room for _0; …]
+        -- The context is [the tally's cell; the open borrow; obs; auth; _4; …; _3; …; _2; …; _1; …; room for _0; …].
         assigns ! (of-opd ! (load ! (from ! (hop ! (look ! 8 refl) (stop !))) (look-raw ! 0 refl))) (from ! (stop !)) (init ! 4 refl (LL.lawful T.the-type T′.the-laws 𝓤 H A W .typed h _ was .0)) $
         nothing ! $ use1 W (raw (StepOn 𝓤 H A at-mem run .pre to-step)) (goes-step was) $
         calls-at ! fm (StepOn 𝓤 H A at-mem run) known to-step (and-then ! (load ! (from ! (stop !)) (look ! 11 refl)) (and-then ! (load ! (from ! (stop !)) (look ! 5 refl)) (no-more !))) (λ v.
         use1 W (later (some (λ (r : Moved). (‵ ftrue ⊛ ‵ (Mv.the-row .own r (v ∷ []))) ⊛ raw (ensured 𝓤 H A step-on.ended (step-on.clauses 𝓤 H A at-mem run) tt (s, (h, tt)) tt r)))) (id⊢ 𝓤 _) $ await ! tt $ pick ! (λ r.
         split ! $ move ! (1 ∷ []) $ use1 W (raw (fact 𝓤 (r ≡ stepOf s h))) (step-of r) $ heard ! (r ≡ stepOf s h) (λ e. split ! $ drop ! $
         peeks ! Mv.the-row (Is Mv.the-row) (shows 𝓤 H A Mv.the-row) r (v ∷ []) (λ is. drop ! $
-        -- [the tally's cell; the open borrow; obs; auth; _4; …; _3; …; _2; …; _1; …; room for _0; …]
+        -- The context is [the tally's cell; the open borrow; obs; auth; _4; …; _3; …; _2; …; _1; …; room for _0; …].
         land ! (from ! (stop !)) (init ! 6 refl (LL.lawful Mv.the-type Mv′.the-laws 𝓤 H A W .typed r _ is .0)) $
         rewrite ! 6 (λ (u : Val). ‵ (fat fullShare Mv′.mir l₃ 0 u)) (ap only (LL.tells Mv.the-type Mv′.the-laws r (v ∷ []) is)) refl $
         assigns ! (of-opd ! (load ! (from ! (fld ! refl (stop !))) (look-in ! 6 (sub ! 1 refl (whole !))))) (from ! (hop ! (look ! 8 refl) (stop !))) (store-raw ! 0 refl (LL.lawful T.the-type T′.the-laws 𝓤 H A W .typed (r .tally) _ (tally-is r v is) .0)) $
         assigns ! (agg ! (and-then ! (load ! (from ! (fld ! refl (stop !))) (look-in ! 6 (sub ! 0 refl (whole !)))) (and-then ! (load ! (from ! (fld ! refl (stop !))) (look-in ! 6 (sub ! 2 refl (whole !)))) (no-more !)))) (from ! (stop !)) (init ! 12 refl (LL.lawful St.the-type St′.the-laws 𝓤 H A W .typed (stepped r) _ (stepped-is r v is) .0)) $
         owned ! R (Is R) (LL.makes T.the-type T′.the-plain 𝓤 H A) (r .tally) _ (tally-is r v is) $
         move ! (1 ∷ 0 ∷ []) $ closes ! tt R (r .tally) (vals (r .tally)) b o $
-        -- [obs; the borrow; the token; _4; …; _3; …; _2; …; _1; …; _0; …]
+        -- The context is [obs; the borrow; the token; _4; …; _3; …; _2; …; _1; …; _0; …].
         returns ! (look ! 11 refl) $ forget ! 3 refl $ forget ! 5 refl $ forget ! 7 refl $ forget ! 9 refl $ forget ! 11 refl $
         move ! (11 ∷ 12 ∷ []) $ free1 ! $ move ! (9 ∷ 10 ∷ []) $ free1 ! $ move ! (7 ∷ 8 ∷ []) $ free1 ! $ move ! (5 ∷ 6 ∷ []) $ free1 ! $ move ! (3 ∷ 4 ∷ []) $ free1 ! $ free0 ! $
         keep ! (0 ∷ 1 ∷ 2 ∷ []) $ by ! (exits r e (stepped-is r v is)))))))))))))

@@ -4,9 +4,10 @@ use borrow.Author.Needs.{needs}
 use mathlib.Core.Bool.{not}
 use mathlib.Core.Path.{_≡_, _∙_}
 use native.Mathlib.Omega.{arith}
+use Rattle.base.specs.First.{firstFrom}
+use Rattle.base.proofs.FirstLaws.{first-on, first-here, first-end}
 use Rattle.table.specs.Bytes.{recordAt}
 use Rattle.table.specs.Sound.{broken, firstBroken}
-use Rattle.theory.specs.First.{firstFrom, first-on, first-here, first-end}
 use Rattle.table.proofs.first_broken.Statement.{statement}
 use Rattle.table.proofs.first_broken.Tie as tie
 
@@ -17,10 +18,10 @@ Inv-loop table count k₀ k =
 abbrev μ-loop : tie.MeasureT-loop
 μ-loop table count k₀ k = count - k
 
--- the test at k is what was asked of record k
-kept : (c : tie.After-keeps Inv-loop μ-loop)
-    → broken (recordAt (c .before .before .before .before .before .args .table .now)) (c .before .before .before .loop .k) ≡ not (c .keeps .result)
-kept c = rw (c .keeps .ensures, c .before .record-at .ensures)
+-- The test at k is what was asked of record k.
+kept : (c : tie.After-record-fits Inv-loop μ-loop)
+    → broken (recordAt (c .before .before .before .before .before .args .table .now)) (c .before .before .before .loop .k) ≡ not (c .record-fits .result)
+kept c = rw (c .record-fits .ensures, c .before .record-at .ensures)
 
 loop-holds : tie.Need-loop-holds Inv-loop μ-loop
 loop-holds c = (omega arith, (let e : c .before .args .count - 0 ≡ c .before .args .count = omega arith in rw e))
@@ -28,8 +29,8 @@ loop-holds c = (omega arith, (let e : c .before .args .count - 0 ≡ c .before .
 record-at-requires : tie.Need-record-at-requires Inv-loop μ-loop
 record-at-requires c κs = search needs
 
-keeps-requires : tie.Need-keeps-requires Inv-loop μ-loop
-keeps-requires c κs = search needs
+record-fits-requires : tie.Need-record-fits-requires Inv-loop μ-loop
+record-fits-requires c κs = search needs
 
 returns : tie.Need-returns Inv-loop μ-loop
 returns c =
@@ -58,7 +59,7 @@ first-broken-spec =
     μ-loop
     loop-holds
     record-at-requires
-    keeps-requires
+    record-fits-requires
     returns
     add-k
     loop-less

@@ -4,9 +4,10 @@ use borrow.Author.Needs.{needs}
 use borrow.Author.Tests.{lt-ltb, le-ltb}
 use mathlib.Core.Path.{_≡_, refl}
 use native.Mathlib.Omega.{arith}
+use Rattle.base.specs.First.{firstFrom}
+use Rattle.base.proofs.FirstLaws.{first-on, first-here, first-end}
 use Rattle.table.specs.Bytes.{recordAt}
 use Rattle.table.specs.Sound.{falling, firstFalling}
-use Rattle.theory.specs.First.{firstFrom, first-on, first-here, first-end}
 use Rattle.table.proofs.first_falling.Statement.{statement}
 use Rattle.table.proofs.first_falling.Tie as tie
 

@@ -1,156 +1,119 @@
+-- `table::tell` meets its contract, refusal by refusal.
 use borrow.Author.Needs.{needs}
 use Rattle.table.proofs.tell.Statement.{statement}
 use Rattle.table.proofs.tell.Tie as tie
 
--- src/lib.rt:55:28
 enum-told : tie.Need-enum-told
 enum-told c = search needs
 
--- src/lib.rt:55:28
 placed-requires : tie.Need-placed-requires
 placed-requires c κs = search needs
 
--- src/lib.rt:56:27
 enum-known-refusal : tie.Need-enum-known-refusal
 enum-known-refusal c = search needs
 
--- src/lib.rt:56:39
 placed-requires-2 : tie.Need-placed-requires-2
 placed-requires-2 c κs = search needs
 
--- src/lib.rt:57:28
 enum-known-refusal-2 : tie.Need-enum-known-refusal-2
 enum-known-refusal-2 c = search needs
 
--- src/lib.rt:57:40
 placed-requires-3 : tie.Need-placed-requires-3
 placed-requires-3 c κs = search needs
 
--- src/lib.rt:58:27
 enum-told-2 : tie.Need-enum-told-2
 enum-told-2 c = search needs
 
--- src/lib.rt:58:27
 placed-requires-4 : tie.Need-placed-requires-4
 placed-requires-4 c κs = search needs
 
--- src/lib.rt:59:29
 enum-known-refusal-3 : tie.Need-enum-known-refusal-3
 enum-known-refusal-3 c = search needs
 
--- src/lib.rt:64:27
 enum-told-3 : tie.Need-enum-told-3
 enum-told-3 c = search needs
 
--- src/lib.rt:64:27
 placed-requires-5 : tie.Need-placed-requires-5
 placed-requires-5 c κs = search needs
 
--- src/lib.rt:65:30
 enum-told-4 : tie.Need-enum-told-4
 enum-told-4 c = search needs
 
--- src/lib.rt:65:30
 placed-requires-6 : tie.Need-placed-requires-6
 placed-requires-6 c κs = search needs
 
--- src/lib.rt:66:28
 enum-told-5 : tie.Need-enum-told-5
 enum-told-5 c = search needs
 
--- src/lib.rt:66:28
 placed-requires-7 : tie.Need-placed-requires-7
 placed-requires-7 c κs = search needs
 
--- src/lib.rt:67:28
 enum-told-6 : tie.Need-enum-told-6
 enum-told-6 c = search needs
 
--- src/lib.rt:67:28
 placed-requires-8 : tie.Need-placed-requires-8
 placed-requires-8 c κs = search needs
 
--- src/lib.rt:68:33
 enum-told-7 : tie.Need-enum-told-7
 enum-told-7 c = search needs
 
--- src/lib.rt:68:33
 placed-requires-9 : tie.Need-placed-requires-9
 placed-requires-9 c κs = search needs
 
--- src/lib.rt:69:29
 enum-told-8 : tie.Need-enum-told-8
 enum-told-8 c = search needs
 
--- src/lib.rt:69:29
 placed-requires-10 : tie.Need-placed-requires-10
 placed-requires-10 c κs = search needs
 
--- src/lib.rt:70:27
 enum-told-9 : tie.Need-enum-told-9
 enum-told-9 c = search needs
 
--- src/lib.rt:70:27
 placed-requires-11 : tie.Need-placed-requires-11
 placed-requires-11 c κs = search needs
 
--- src/lib.rt:71:27
 enum-told-10 : tie.Need-enum-told-10
 enum-told-10 c = search needs
 
--- src/lib.rt:71:27
 placed-requires-12 : tie.Need-placed-requires-12
 placed-requires-12 c κs = search needs
 
--- src/lib.rt:51:1
 returns : tie.Need-returns
 returns c = cc
 
--- src/lib.rt:51:1
 returns-2 : tie.Need-returns-2
 returns-2 c = cc
 
--- src/lib.rt:51:1
 returns-3 : tie.Need-returns-3
 returns-3 c = cc
 
--- src/lib.rt:51:1
 returns-4 : tie.Need-returns-4
 returns-4 c = cc
 
--- src/lib.rt:51:1
 returns-5 : tie.Need-returns-5
 returns-5 c = cc
 
--- src/lib.rt:51:1
 returns-6 : tie.Need-returns-6
 returns-6 c = cc
 
--- src/lib.rt:51:1
 returns-7 : tie.Need-returns-7
 returns-7 c = cc
 
--- src/lib.rt:51:1
 returns-8 : tie.Need-returns-8
 returns-8 c = cc
 
--- src/lib.rt:51:1
 returns-9 : tie.Need-returns-9
 returns-9 c = cc
 
--- src/lib.rt:51:1
 returns-10 : tie.Need-returns-10
 returns-10 c = cc
 
--- src/lib.rt:51:1
 returns-11 : tie.Need-returns-11
 returns-11 c = cc
 
--- src/lib.rt:51:1
 returns-12 : tie.Need-returns-12
 returns-12 c = cc
 
--- src/lib.rt:51:1
 returns-13 : tie.Need-returns-13
 returns-13 c = cc
 

@@ -31,8 +31,8 @@ loop-holds c = search needs
 given-requires : tie.Need-given-requires Inv-loop μ-loop
 given-requires c κs = search needs
 
-step-on-requires : tie.Need-step-on-requires Inv-loop μ-loop
-step-on-requires c κs = search needs
+step-lent-requires : tie.Need-step-lent-requires Inv-loop μ-loop
+step-lent-requires c κs = search needs
 
 number-requires : tie.Need-number-requires Inv-loop μ-loop
 number-requires c κs = search needs
@@ -71,7 +71,7 @@ case-j-spec =
     zeros-requires
     loop-holds
     given-requires
-    step-on-requires
+    step-lent-requires
     number-requires
     ticked-requires
     add-t

@@ -31,8 +31,8 @@ loop-holds c = search needs
 given-requires : tie.Need-given-requires Inv-loop μ-loop
 given-requires c κs = search needs
 
-step-on-requires : tie.Need-step-on-requires Inv-loop μ-loop
-step-on-requires c κs = search needs
+step-lent-requires : tie.Need-step-lent-requires Inv-loop μ-loop
+step-lent-requires c κs = search needs
 
 finished-requires : tie.Need-finished-requires Inv-loop μ-loop
 finished-requires c κs = search needs
@@ -65,7 +65,7 @@ figure-3-spec =
     zeros-requires
     loop-holds
     given-requires
-    step-on-requires
+    step-lent-requires
     finished-requires
     add-t
     loop-less

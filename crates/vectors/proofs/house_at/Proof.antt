@@ -25,8 +25,8 @@ loop-holds c = search needs
 given-requires : tie.Need-given-requires Inv-loop μ-loop
 given-requires c κs = search needs
 
-step-on-requires : tie.Need-step-on-requires Inv-loop μ-loop
-step-on-requires c κs = search needs
+step-lent-requires : tie.Need-step-lent-requires Inv-loop μ-loop
+step-lent-requires c κs = search needs
 
 add-k : tie.Need-add-k Inv-loop μ-loop
 add-k c = search needs
@@ -54,7 +54,7 @@ house-at-spec =
     zeros-requires
     loop-holds
     given-requires
-    step-on-requires
+    step-lent-requires
     add-k
     loop-less
     loop-again

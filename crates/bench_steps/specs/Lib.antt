@@ -1,0 +1,2 @@
+-- ManySteps makes many steps, one after the other.
+pub mod ManySteps

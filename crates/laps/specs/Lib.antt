@@ -1,2 +1,0 @@
--- many steps
-pub mod Laps

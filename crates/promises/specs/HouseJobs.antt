@@ -1,0 +1,100 @@
+-- That every job finishes and that each figure is reached is used here on the house table with all hypotheses met. By
+-- computation, under the worst pattern up to tick 30 its finishes are exactly task 1's at 30.
+use Prim.Native.Nat.{ℕ, _≤_, _<_}
+use mathlib.Core.Path.{_≡_, refl}
+use mathlib.Core.Logic.{inl, inr}
+use mathlib.Core.List.{List, [], _∷_, _++_}
+use native.Mathlib.Omega.{arith}
+use Rattle.base.specs.First.{firstFrom}
+use Rattle.base.specs.Sum.{sumTo}
+use Rattle.base.specs.Every.{every}
+use Rattle.base.specs.Fold.{folded}
+use Rattle.base.specs.List.{In}
+use Rattle.theory.specs.Round.{ceil}
+use Rattle.theory.specs.Rules.{ready, demand}
+use Rattle.theory.specs.Rounds.{rounds, outcome}
+use Rattle.theory.specs.Pattern.{offset}
+use Rattle.table.specs.Bytes.{wordAt, recordAt}
+use Rattle.table.specs.Times.{releaseTime, waiting}
+use Rattle.table.specs.Sound.{askRecords, askOrder, askSleep, readOf}
+use Rattle.table.specs.Set.{rulesOf}
+use Rattle.admission.specs.Verdicts.{walkFrom}
+use Rattle.scheduler.specs.declared.Job.the-variants.{Working}
+use Rattle.scheduler.specs.States.{entryIn, recordIn, periodBefore, stateFits, entriesOf}
+use Rattle.scheduler.specs.Releases.{askDemand, askTask, mayRelease, releaseAnswer}
+use Rattle.scheduler.specs.Steps.{stepOf}
+use Rattle.scheduler.specs.History.{Call, lend, Taken, Finish, next, history}
+use Rattle.scheduler.specs.Jobs.{finishAt, Followed, Was-released, Finishes-at}
+use Rattle.scheduler.specs.Pattern.{dueAt, releasesAt, worstPattern}
+use Rattle.promises.specs.Cases.{bytesOf}
+use Rattle.promises.specs.Demand3.{figureOf, every-job-is-followed, every-job-finishes, every-job-was-released, every-finish-was-released, figure-within-period, each-figure-is-reached}
+use Rattle.promises.specs.Uses.{house, house-sound, house-admitted}
+
+-- `released` are the releases of the worst pattern up to tick 30, tasks 2 to 4 at 1 and task 1 at 20, and `first` is
+-- the one finish.
+released : List Taken
+released =
+    record { place = 0; at = 20; demand = 2 }
+    ∷ record { place = 3; at = 1; demand = 4 }
+    ∷ record { place = 2; at = 1; demand = 2 }
+    ∷ record { place = 1; at = 1; demand = 3 }
+    ∷ []
+
+first : Finish
+first = record { place = 0; release = 20; at = 30 }
+
+-- `thirty` is the house table's worst pattern up to tick 30.
+thirty : List Call
+thirty = worstPattern (rulesOf (house .table)) 4 30
+
+-- THE FINISHES ARE EXACTLY TASK 1'S AT 30, released at 20; no call is refused, and task 4 is still at work.
+thirty-is : (history house thirty .finishes ≡ first ∷ []) × (history house thirty .taken ≡ released) × (history house thirty .state .clock ≡ 30)
+    × (history house thirty .refusals ≡ 0) × (entryIn (history house thirty .state) 3 .job ≡ Working 1 4)
+unfolding first released thirty house bytesOf wordAt recordAt firstFrom askRecords askOrder askSleep readOf ceil ready every recordIn periodBefore stateFits entriesOf stepOf askDemand askTask mayRelease releaseAnswer releaseTime next folded offset dueAt releasesAt worstPattern
+thirty-is = (refl, refl, refl, refl, refl)
+
+-- The finishes are exactly task 1's at 30 also where the last step lends another tally that sums to the clock.
+lent : List Call
+lent = worstPattern (rulesOf (house .table)) 4 29 ++ lend (record { run = 29; slot = 0; tail = 0 }) ∷ []
+
+lent-is : (history house lent .finishes ≡ first ∷ []) × (history house lent .taken ≡ released) × (history house lent .state .clock ≡ 30)
+unfolding first released lent house bytesOf wordAt recordAt firstFrom askRecords askOrder askSleep readOf ceil ready every recordIn periodBefore stateFits entriesOf stepOf askDemand askTask mayRelease releaseAnswer releaseTime next folded offset dueAt releasesAt worstPattern
+lent-is = (refl, refl, refl)
+
+-- These are the figures of tasks 1 and 4, when the pattern releases task 4 first, and task 4's period.
+figures : (figureOf house 0 ≡ 10) × (figureOf house 3 ≡ 38) × (offset (rulesOf (house .table)) 3 ≡ 1) × (rulesOf (house .table) .T 3 ≡ 200)
+unfolding house bytesOf wordAt recordAt firstFrom askRecords askOrder askSleep readOf ceil sumTo demand rounds outcome waiting walkFrom offset
+figures = (refl, refl, refl, refl)
+
+-- Task 1's release at 20 has finished after it and by 30, as it must have, also where another tally is lent.
+first-finishes : (calls : List Call) → history house calls .taken ≡ released → history house calls .state .clock ≡ 30
+    → (t : ℕ) × (20 < t) × (t ≤ 30) × In (finishAt (record { place = 0; at = 20; demand = 2 }) t) (history house calls .finishes)
+unfolding In released
+first-finishes calls taken clock =
+    rw (figures .0) at (every-job-finishes house 4 calls (record { place = 0; at = 20; demand = 2 }) house-admitted (rw taken (inl refl)) (omega (arith, figures .0, clock)))
+
+house-job-finishes : (t : ℕ) × (20 < t) × (t ≤ 30) × In (finishAt (record { place = 0; at = 20; demand = 2 }) t) (history house thirty .finishes)
+house-job-finishes = first-finishes thirty (thirty-is .1) (thirty-is .2)
+
+house-lent-finishes : (t : ℕ) × (20 < t) × (t ≤ 30) × In (finishAt (record { place = 0; at = 20; demand = 2 }) t) (history house lent .finishes)
+house-lent-finishes = first-finishes lent (lent-is .1) (lent-is .2)
+
+-- Task 4's release at 1 is followed: it is at work with all of its 4 ticks.
+house-job-is-followed : Followed (history house thirty) (record { place = 3; at = 1; demand = 4 })
+unfolding In released
+house-job-is-followed = every-job-is-followed house 4 thirty (record { place = 3; at = 1; demand = 4 }) house-sound (rw (thirty-is .1) (inr (inl refl)))
+
+-- Task 4's job at work and task 1's finish are both among the accepted releases.
+house-job-was-released : Was-released (history house thirty .taken) 3 1
+house-job-was-released = every-job-was-released house 4 3 1 4 thirty house-sound (omega arith) (thirty-is .4)
+
+house-finish-was-released : Was-released (history house thirty .taken) 0 20
+unfolding In first
+house-finish-was-released = every-finish-was-released house 4 thirty first house-sound (rw (thirty-is .0) (inl refl))
+
+-- Task 4's job finishes at 39, its figure 38 after its release, which is within its period.
+house-finish-at-figure : Finishes-at (history house (worstPattern (rulesOf (house .table)) 4 39)) 3 1 39
+house-finish-at-figure = rw (figures .1, figures .2) at (each-figure-is-reached house 4 3 house-admitted (omega arith))
+
+house-figure-within : 38 ≤ 200
+house-figure-within = rw (figures .1, figures .3) at (figure-within-period house 4 3 house-admitted (omega arith))

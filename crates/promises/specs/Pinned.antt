@@ -1,0 +1,71 @@
+-- What no theorem can see: numbers, answers and the order of words, held against literal numbers. A definition that is wrong
+-- together with its code is refused here.
+use Prim.Native.Nat.{ℕ}
+use mathlib.Core.Path.{_≡_, refl}
+use mathlib.Core.List.{List, [], _∷_, _++_}
+use lib.ListN.{replicate, set}
+use Rattle.base.specs.List.{listFrom}
+use Rattle.table.specs.declared.Record.{Record}
+use Rattle.table.specs.declared.Refusal.the-variants.{Length, Broken, Falling, Sleep, NoWindow, Unfit, ClockEnd, NoTask, Demand, OffBoundary, Working, Early, Power}
+use Rattle.table.specs.declared.Told.{Told}
+use Rattle.table.specs.Refusals.{toldOf}
+use Rattle.table.specs.Sound.{places}
+use Rattle.admission.specs.declared.Answer.the-variants.{Admitted}
+use Rattle.admission.specs.Verdicts.{verdict, zeros}
+use Rattle.scheduler.specs.declared.Job.the-variants as job
+use Rattle.scheduler.specs.declared.Last.the-variants as last
+use Rattle.scheduler.specs.declared.Entry.{Entry}
+use Rattle.scheduler.specs.declared.State.{State}
+use Rattle.scheduler.specs.declared.Tick.the-variants.{Run, Slot, Tail}
+use Rattle.scheduler.specs.States.{noEntry}
+use Rattle.node.specs.Layout.{placesWords, stateWords, tallyWords, verdictWords}
+use Rattle.node.specs.Calls.{packed, toldAnswer, tickAnswer, energyOn}
+
+-- A refusal is written here as its number, the record or task that comes back with it, and the rounds spent.
+abbrev told : ℕ → ℕ → ℕ → Told
+told number place rounds = record { number = number; place = place; rounds = rounds }
+
+-- Document 01's table of refusals has these numbers, in its order, with what comes back.
+pub refusals-are-told : toldOf Length ∷ toldOf (Broken 7) ∷ toldOf (Falling 9) ∷ toldOf Sleep ∷ toldOf (NoWindow 3 40) ∷ toldOf Unfit ∷ toldOf ClockEnd ∷ toldOf NoTask ∷ toldOf Demand ∷ toldOf OffBoundary ∷ toldOf Working ∷ toldOf Early ∷ toldOf Power ∷ []
+    ≡ told 1 0 0 ∷ told 2 7 0 ∷ told 3 9 0 ∷ told 4 0 0 ∷ told 5 3 40 ∷ told 6 0 0 ∷ told 7 0 0 ∷ told 8 0 0 ∷ told 9 0 0 ∷ told 10 0 0 ∷ told 11 0 0 ∷ told 12 0 0 ∷ told 13 0 0 ∷ []
+refusals-are-told = refl
+
+-- An answer has its number in the low byte, the record, task or kind in the next, and rounds or the task that ran above:
+-- refusal 5 of task 3 after 40 rounds, a run of task 3, a slot tick and a tail tick.
+pub answers-are-packed : toldAnswer (toldOf (NoWindow 3 40)) ∷ tickAnswer (Run 3) ∷ tickAnswer Slot ∷ tickAnswer Tail ∷ [] ≡ 2622213 ∷ 196608 ∷ 256 ∷ 512 ∷ []
+answers-are-packed = refl
+
+-- An energy reading has its nanojoules above the low byte: document 01's case J.
+pub energy-is-packed : energyOn (11 ∷ 16 ∷ 13 ∷ []) 23000 16 ≡ 64886784
+unfolding energyOn
+energy-is-packed = refl
+
+-- A state's words stand in this order: the sleep record, n and the clock; then by place label, work, period, reserved, 1 at
+-- work with its release and what is left, 1 released with that tick.
+abbrev two : State
+two = record {
+  sleep = record { label = 10; work = 8; period = 20; reserved = 0 };
+  n = 2;
+  clock = 45;
+  entries = record { task = record { label = 11; work = 2; period = 20; reserved = 0 }; job = job.Working 40 1; last = last.At 40 }
+      ∷ record { task = record { label = 12; work = 3; period = 50; reserved = 0 }; job = job.Resting; last = last.At 21 }
+      ∷ replicate 14 noEntry;
+}
+
+pub state-words-are : stateWords two
+    ≡ (10 ∷ 8 ∷ 20 ∷ 0 ∷ 2 ∷ 45 ∷ [])
+    ++ (11 ∷ 2 ∷ 20 ∷ 0 ∷ 1 ∷ 40 ∷ 1 ∷ 1 ∷ 40 ∷ [])
+    ++ (12 ∷ 3 ∷ 50 ∷ 0 ∷ 0 ∷ 0 ∷ 0 ∷ 1 ∷ 21 ∷ [])
+    ++ replicate 126 0
+unfolding placesWords
+state-words-are = refl
+
+-- A tally's words are its run, slot and tail ticks.
+pub tally-words-are : tallyWords (record { run = 11; slot = 16; tail = 13 }) ≡ 11 ∷ 16 ∷ 13 ∷ []
+tally-words-are = refl
+
+-- A verdict's words are 16 windows, 16 figures and 16 rounds.
+pub verdict-words-are : verdictWords (verdict (Admitted 2) (set (set zeros 0 10) 1 13) (set (set zeros 0 10) 1 32) (set (set zeros 0 1) 1 2))
+    ≡ (10 ∷ 13 ∷ []) ++ replicate 14 0 ++ (10 ∷ 32 ∷ []) ++ replicate 14 0 ++ (1 ∷ 2 ∷ []) ++ replicate 14 0
+unfolding listFrom
+verdict-words-are = refl

@@ -1,0 +1,65 @@
+-- Document 01, "What is turned away", is stated here as facts: when each refusal applies to a release and to a step, in
+-- the words of the column "Given exactly when". A start's refusals are those of its table (table/specs/Applies.antt).
+use Prim.Native.Nat.{ℕ, _+_, _-_, _%_, _≤_, _<_}
+use mathlib.Core.Path.{_≡_}
+use mathlib.Core.Logic.{_≢_}
+use Rattle.table.specs.declared.Refusal.{Refusal}
+use Rattle.table.specs.declared.Refusal.the-variants as refusal
+use Rattle.scheduler.specs.declared.Job.the-variants.{Resting, Working}
+use Rattle.scheduler.specs.declared.Last.the-variants.{At}
+use Rattle.scheduler.specs.declared.State.{State}
+use Rattle.scheduler.specs.declared.Tally.{Tally}
+use Rattle.scheduler.specs.States.{clockEnd, entryIn, total}
+use Rattle.scheduler.specs.Lawful.{Lawful-state}
+
+-- WHEN A REFUSAL APPLIES TO A RELEASE: 6 does where the state breaks a rule, 7 where the clock stands at its end, 8
+-- where the task number is not in 1 to n, 9 where the demand is not in 1 to C, 10 where it is task 1 off a multiple of
+-- H, 11 where that task is still working, 12 where its last release is fewer than T ticks ago. No other one does.
+abbrev pub Release-applies : State → ℕ → ℕ → Refusal → Type 0
+Release-applies s task demand refusal.Length = ⊥
+Release-applies s task demand (refusal.Broken k) = ⊥
+Release-applies s task demand (refusal.Falling k) = ⊥
+Release-applies s task demand refusal.Sleep = ⊥
+Release-applies s task demand (refusal.NoWindow k rounds) = ⊥
+Release-applies s task demand refusal.Unfit = Lawful-state s → ⊥
+Release-applies s task demand refusal.ClockEnd = s .clock ≡ clockEnd
+Release-applies s task demand refusal.NoTask = (1 ≤ task) × (task ≤ s .n) → ⊥
+Release-applies s task demand refusal.Demand = (1 ≤ demand) × (demand ≤ entryIn s (task - 1) .task .work) → ⊥
+Release-applies s task demand refusal.OffBoundary = (task ≡ 1) × (s .clock % s .sleep .period ≢ 0)
+Release-applies s task demand refusal.Working = (a : ℕ) × (l : ℕ) × (entryIn s (task - 1) .job ≡ Working a l)
+Release-applies s task demand refusal.Early = (a : ℕ) × (entryIn s (task - 1) .last ≡ At a) × (s .clock < a + entryIn s (task - 1) .task .period)
+Release-applies s task demand refusal.Power = ⊥
+
+-- No refusal applies to a release where the rules are kept, the clock is before its end, there is such a task, the
+-- demand is 1 to C, task 1 is at a multiple of H, the task rests, and its last release is at least its period ago.
+pub record Releasable (s : State) (task demand : ℕ) : Type 0 where
+  pub lawful-state : Lawful-state s
+  pub before-end : s .clock < clockEnd
+  pub from-one : 1 ≤ task
+  pub to-n : task ≤ s .n
+  pub some : 1 ≤ demand
+  pub full : demand ≤ entryIn s (task - 1) .task .work
+  pub on-boundary : task ≡ 1 → s .clock % s .sleep .period ≡ 0
+  pub resting : entryIn s (task - 1) .job ≡ Resting
+  pub spaced : (a : ℕ) → entryIn s (task - 1) .last ≡ At a → a + entryIn s (task - 1) .task .period ≤ s .clock
+
+-- State and tally keep their rules: the state is lawful, and the tally's counts sum to the clock.
+pub record Rules-kept (s : State) (t : Tally) : Type 0 where
+  pub lawful-state : Lawful-state s
+  pub counted : total t ≡ s .clock
+
+-- WHEN A REFUSAL APPLIES TO A STEP: 6 does where state or tally breaks a rule, 7 at the clock's end, and no other one.
+abbrev pub Step-applies : State → Tally → Refusal → Type 0
+Step-applies s t refusal.Length = ⊥
+Step-applies s t (refusal.Broken k) = ⊥
+Step-applies s t (refusal.Falling k) = ⊥
+Step-applies s t refusal.Sleep = ⊥
+Step-applies s t (refusal.NoWindow k rounds) = ⊥
+Step-applies s t refusal.Unfit = Rules-kept s t → ⊥
+Step-applies s t refusal.ClockEnd = s .clock ≡ clockEnd
+Step-applies s t refusal.NoTask = ⊥
+Step-applies s t refusal.Demand = ⊥
+Step-applies s t refusal.OffBoundary = ⊥
+Step-applies s t refusal.Working = ⊥
+Step-applies s t refusal.Early = ⊥
+Step-applies s t refusal.Power = ⊥

@@ -1,0 +1,22 @@
+-- What an accepted start hands back is stated here as facts, as document 01 says it.
+use Prim.Native.Nat.{ℕ, _≤_, _<_}
+use mathlib.Core.Path.{_≡_}
+use mathlib.Core.List.{List}
+use lib.ListN.{length}
+use Rattle.table.specs.Bytes.{recordAt}
+use Rattle.table.specs.Sound.{places}
+use Rattle.scheduler.specs.declared.Job.the-variants.{Resting}
+use Rattle.scheduler.specs.declared.Last.the-variants.{Never}
+use Rattle.scheduler.specs.declared.State.{State}
+use Rattle.scheduler.specs.States.{noEntry, entryIn, recordIn}
+
+-- The state holds the table of n tasks, the clock is 0, every task rests with the mark "never", and every place after
+-- the tasks is a spare one.
+pub record Fresh (table : List ℕ) (n : ℕ) (s : State) : Type 0 where
+  pub tasks : s .n ≡ n
+  pub records : (k : ℕ) → k ≤ n → recordIn s k ≡ recordAt table k
+  pub clock-zero : s .clock ≡ 0
+  pub resting : (i : ℕ) → i < n → entryIn s i .job ≡ Resting
+  pub never : (i : ℕ) → i < n → entryIn s i .last ≡ Never
+  pub spare : (i : ℕ) → n ≤ i → i < places → entryIn s i ≡ noEntry
+  pub room : length (s .entries) ≡ places
