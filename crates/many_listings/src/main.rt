@@ -53,7 +53,7 @@ fn sets() {
     );
 }
 
-// Refusal number 1 is tried here.
+// Refusal number 1 is tried here, and before 2.
 fn lengths() {
     cut(b"no bytes\n", house(), 0);
     cut(b"15 bytes\n", house(), 15);
@@ -61,6 +61,16 @@ fn lengths() {
     cut(b"79 bytes of the house table\n", house(), 79);
     cut(b"18 records\n", steady(18, 1, 60000), 288);
     cut(b"17 records and a byte\n", steady(18, 1, 60000), 273);
+    cut(
+        b"1 and 2: 79 bytes, record 2 is broken\n",
+        with(house(), 2, 1, 0),
+        79,
+    );
+    cut(
+        b"1 and 2: 18 records, record 2 is broken\n",
+        with(steady(18, 1, 60000), 2, 1, 0),
+        288,
+    );
 }
 
 // Refusal number 2 is tried here: each of its rules, in the first, a middle and the last record,
@@ -87,6 +97,10 @@ fn records() {
 fn order() {
     show(b"3: record 2 falls\n", with(house(), 2, 2, 19));
     show(b"3: record 4 falls\n", with(house(), 4, 2, 99));
+    show(
+        b"3 twice: records 2 and 4 fall\n",
+        with(with(house(), 2, 2, 19), 4, 2, 99),
+    );
     show(
         b"3 and 4: S = H, record 3 falls\n",
         with(with(house(), 0, 1, 20), 3, 2, 49),

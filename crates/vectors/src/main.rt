@@ -51,7 +51,9 @@ fn starts() {
     let state = none.state;
     answered(answer);
     shown(state);
-    tried(b"a refused start's state", state);
+    say(b"a refused start's state\n");
+    stepped(state, 0, 0, 0);
+    asked(state, 2, 1);
 }
 
 // Case J runs the worst pattern on the house table for 40 ticks, with its tally and its energy.
@@ -99,8 +101,8 @@ fn figure_3() {
     counted(tally);
 }
 
-// Refusals 8 to 12 are tried here, and what is accepted beside them; the lowest number is given
-// where several apply.
+// Refusals 8 to 12 are tried here, each where it alone applies and with its neighbours, and what is
+// accepted beside them; the lowest number is given where several apply.
 fn releases() {
     say(b"releases at 30: task 1 rests, 2 to 4 work\n");
     let s = house_at(30);
@@ -115,6 +117,9 @@ fn releases() {
     asked(s, 1, 1);
     asked(s, 2, 1);
     asked(s, 4, 4);
+    say(b"releases at 51: task 1 rests since 20, 2 works since 1\n");
+    asked(clocked(s, 51), 1, 2);
+    asked(clocked(s, 51), 2, 3);
     say(b"releases at 40: task 1 came now, the others rest\n");
     let s = house_at(40);
     asked(s, 1, 2);
@@ -123,11 +128,13 @@ fn releases() {
     say(b"releases at 50 and 51: task 2 came at 1, its period is 50\n");
     asked(clocked(s, 50), 2, 3);
     asked(clocked(s, 51), 2, 3);
+    asked(clocked(s, 51), 2, 4);
+    asked(clocked(s, 51), 2, 0);
     asked(clocked(s, 51), 1, 2);
     asked(clocked(s, 51), 4, 4);
 }
 
-// The last clock is tried here.
+// The last clock is tried here, also in a state that breaks a rule.
 fn ends() {
     say(b"the clock's end\n");
     let begun = start(&HOUSE);
@@ -135,29 +142,39 @@ fn ends() {
     let last = clocked(s, 999999999);
     let over = clocked(s, 1000000000);
     let past = clocked(s, 1000000001);
+    let broken = slept(over, record(10, 0, 20, 0));
     stepped(last, 0, 0, 999999999);
     stepped(over, 0, 0, 1000000000);
     stepped(over, 0, 0, 999999999);
     stepped(past, 0, 0, 1000000001);
+    stepped(broken, 0, 0, 1000000000);
     asked(last, 2, 3);
     asked(over, 2, 3);
     asked(over, 0, 0);
+    asked(over, 0, 1);
     asked(past, 2, 3);
+    asked(broken, 2, 3);
 }
 
-// States that break the table rules are tried here.
+// States that break the table rules are tried here: each rule alone, but for H above 60,000, which
+// no period of task 1 within 60,000 is a multiple of. Beside them stand states at a rule's edge.
 fn tables() {
     let s = house_at(30);
     let z = s.sleep;
+    let none = start(&HOUSE[..79]);
+    let empty = none.state;
     tried(b"as it is", s);
-    tried(b"n = 0", sized(s, 0));
+    tried(b"n = 0", slept(clocked(empty, 30), z));
+    tried(b"n = 0, tasks in spare places", sized(s, 0));
     tried(b"n = 3, a task in a spare place", sized(s, 3));
     tried(b"n = 5, a spare place for a task", sized(s, 5));
-    tried(b"n = 17", sized(s, 17));
+    tried(b"n = 16", sized(filled(s), 16));
+    tried(b"n = 17", sized(filled(s), 17));
     tried(b"S = 0", slept(s, record(z.label, 0, 20, 0)));
     tried(b"S = 0, H = 0", slept(s, record(z.label, 0, 0, 0)));
     tried(b"S above H", slept(s, record(z.label, 21, 20, 0)));
     tried(b"S = H", slept(s, record(z.label, 20, 20, 0)));
+    tried(b"S = H - 1", slept(s, record(z.label, 19, 20, 0)));
     tried(b"H = 60,001", slept(s, record(z.label, 8, 60001, 0)));
     tried(b"sleep reserved 1", slept(s, record(z.label, 8, 20, 1)));
     tried(
@@ -166,9 +183,17 @@ fn tables() {
     );
     tried(
         b"H = 7: period 1 no multiple",
-        slept(s, record(z.label, 2, 7, 0)),
+        slept(lasted(s, 0, Last::Never), record(z.label, 2, 7, 0)),
     );
-    tried(b"C = 0 in task 4", tasked(s, 3, record(14, 0, 200, 0)));
+    tried(
+        b"H = 10: period 1 a multiple",
+        slept(s, record(z.label, 8, 10, 0)),
+    );
+    tried(
+        b"C = 0 in task 4",
+        tasked(lasted(s, 3, Last::At(1)), 3, record(14, 0, 200, 0)),
+    );
+    tried(b"C = T in task 4", tasked(s, 3, record(14, 200, 200, 0)));
     tried(
         b"C above T in task 4",
         tasked(s, 3, record(14, 201, 200, 0)),
@@ -176,6 +201,10 @@ fn tables() {
     tried(
         b"T = 60,001 in task 4",
         tasked(s, 3, record(14, 4, 60001, 0)),
+    );
+    tried(
+        b"T = 60,000 in task 4",
+        tasked(s, 3, record(14, 4, 60000, 0)),
     );
     tried(b"reserved 1 in task 4", tasked(s, 3, record(14, 4, 200, 1)));
     tried(
@@ -200,6 +229,14 @@ fn entries() {
         lasted(s, 0, Last::At(21)),
     );
     tried(b"task 1 last released at 0", lasted(s, 0, Last::At(0)));
+    tried(
+        b"task 1 at work since off a boundary",
+        worked(s, 0, 21, 1, Last::At(21)),
+    );
+    tried(
+        b"task 1 at work since a boundary",
+        worked(s, 0, 20, 1, Last::At(20)),
+    );
     tried(
         b"task 2 at work since after the clock",
         worked(s, 1, 31, 1, Last::At(31)),
@@ -247,7 +284,7 @@ fn spares() {
         tasked(s, 4, record(0, 0, 0, 1)),
     );
     tried(b"a spare place released at 0", lasted(s, 4, Last::At(0)));
-    tried(b"a spare place at work", worked(s, 15, 0, 1, Last::At(0)));
+    tried(b"a spare place at work", worked(s, 15, 0, 1, Last::Never));
     tried(b"spare places as they should be", tasked(s, 15, nothing));
 }
 
@@ -270,6 +307,10 @@ fn energies() {
     consumed(tally_of(11, 16, 13), 1000001, 16);
     consumed(tally_of(11, 16, 13), 23000, 1000001);
     consumed(tally_of(1000000000, 0, 0), 1000000, 1000000);
+    consumed(tally_of(1000000000, 0, 0), 1000000, 0);
+    consumed(tally_of(0, 1000000000, 0), 0, 1000000);
+    consumed(tally_of(0, 0, 1000000000), 0, 1000000);
+    consumed(tally_of(300000000, 300000000, 400000000), 999999, 1000000);
     consumed(tally_of(1000000000, 0, 1), 1, 1);
     consumed(tally_of(1000000000, 0, 1), 1000001, 1);
     consumed(tally_of(4294967295, 1, 0), 1, 1);
@@ -576,6 +617,17 @@ fn tasked(s: State, i: usize, task: Record) -> State {
         job: job,
         last: last,
     };
+    next
+}
+
+// The state has a task at each place after the fourth.
+fn filled(s: State) -> State {
+    let mut next = s;
+    let mut i: usize = 4;
+    while i < 16 {
+        next = tasked(next, i, record(15, 1, 200, 0));
+        i += 1;
+    }
     next
 }
 
