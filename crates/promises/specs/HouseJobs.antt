@@ -23,7 +23,7 @@ use Rattle.scheduler.specs.declared.Job.the-variants.{Working}
 use Rattle.scheduler.specs.States.{entryIn, recordIn, periodBefore, stateFits, entriesOf}
 use Rattle.scheduler.specs.Releases.{askDemand, askTask, mayRelease, releaseAnswer}
 use Rattle.scheduler.specs.Steps.{stepOf}
-use Rattle.scheduler.specs.History.{Call, lend, Taken, Finish, next, history}
+use Rattle.scheduler.specs.History.{Call, release, lend, Taken, Finish, next, history}
 use Rattle.scheduler.specs.Jobs.{finishAt, Followed, Was-released, Finishes-at}
 use Rattle.scheduler.specs.Pattern.{dueAt, releasesAt, worstPattern}
 use Rattle.promises.specs.Cases.{bytesOf}
@@ -60,6 +60,15 @@ lent = worstPattern (rulesOf (house .table)) 4 29 ++ lend (record { run = 29; sl
 lent-is : (history house lent .finishes ≡ first ∷ []) × (history house lent .taken ≡ released) × (history house lent .state .clock ≡ 30)
 unfolding first released lent house bytesOf wordAt recordAt firstFrom askRecords askOrder askSleep readOf ceil ready every recordIn periodBefore stateFits entriesOf stepOf askDemand askTask mayRelease releaseAnswer releaseTime next folded offset dueAt releasesAt worstPattern
 lent-is = (refl, refl, refl)
+
+-- A release that comes twice in a tick and a step that lends a wrong tally are counted as refused, and only the first
+-- release is noted.
+twice : List Call
+twice = release 1 2 ∷ release 1 2 ∷ lend (record { run = 1; slot = 0; tail = 0 }) ∷ []
+
+twice-is : (history house twice .refusals ≡ 2) × (history house twice .taken ≡ record { place = 0; at = 0; demand = 2 } ∷ []) × (history house twice .finishes ≡ []) × (history house twice .state .clock ≡ 0)
+unfolding twice house bytesOf wordAt recordAt firstFrom askRecords askOrder askSleep readOf ceil ready every recordIn periodBefore stateFits entriesOf stepOf askDemand askTask mayRelease releaseAnswer releaseTime next folded
+twice-is = (refl, refl, refl, refl)
 
 -- These are the figures of tasks 1 and 4, when the pattern releases task 4 first, and task 4's period.
 figures : (figureOf house 0 ≡ 10) × (figureOf house 3 ≡ 38) × (offset (rulesOf (house .table)) 3 ≡ 1) × (rulesOf (house .table) .T 3 ≡ 200)
