@@ -4,3 +4,5 @@ pub mod DemandLaws
 pub mod WalkLaws
 -- `AdmitLaws` proves what a verdict says.
 pub mod AdmitLaws
+-- `RefusedLaws` proves which refusal an admission gets.
+pub mod RefusedLaws

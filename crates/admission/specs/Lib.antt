@@ -4,3 +4,5 @@ pub mod Figure
 pub mod Verdicts
 -- `Says` gives, as facts, what a verdict says.
 pub mod Says
+-- `Applies` says, as facts, when each refusal applies to an admission.
+pub mod Applies

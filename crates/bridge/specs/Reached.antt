@@ -186,7 +186,7 @@ module _ (g : Given) (n : ℕ) (e : readOf (g .table) ≡ read.Sound n) where
 
       by-standing : Standing (patterned g n (suc m) end .state) (patterned g n (suc m) end .finishes) t job
           → In (record { place = i; release = offset R i; at = end }) (patterned g n (suc m) end .finishes)
-      by-standing (done D) = let same : D .at ≡ end = omega (arith, D .later, D .by-now, I .clock-is, last) in rw same at (D .noted)
+      by-standing (done D) = let same : D .at ≡ end = omega (arith, D .later, D .in-time, I .clock-is, last) in rw same at (D .noted)
       by-standing (going l from q) =
           let w : Resting ≡ Working (offset R i) l = sym (rests-then m i w Ws lm li W) ∙ q in
           let z : _≡_ {A = ℕ} 0 1 = cc in absurd (let y : ⊥ = omega arith in y)

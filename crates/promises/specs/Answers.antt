@@ -1,20 +1,22 @@
--- Document 01, "What is turned away", stands here: the column "Given exactly when" as equivalences about the answers of
--- start, release and step. `Table-applies`, `Release-applies` and `Step-applies` are that column, number by number
--- (specs/Applies.antt of table and of scheduler), and `Lowest` is "where several apply, the lowest number is given".
--- `Lawful-state` is "State", `Sound-table` is "The table"; `toldOf` gives each refusal its number. Number 5 is in
--- Demand2.antt, 6 of an energy reading in Demand1.antt.
+-- What the calls answer, beyond demand 1: when a call is accepted, which numbers it gives and no others, what a start
+-- hands back, what a table that is not sound gets, and that along a history no call gets 6. `Lawful-state` is document
+-- 01's "State", `Sound-table` its "The table"; `Releasable` and `Rules-kept` have its rules in words.
 use Prim.Native.Nat.{ℕ, _≤_, _<_}
 use mathlib.Core.Path.{_≡_, refl}
-use mathlib.Core.Logic.{_↔_, _⊎_}
+use mathlib.Core.Logic.{_↔_}
 use mathlib.Core.List.{List}
 use mathlib.Core.Bool.{true}
 use Rattle.base.specs.List.{Each}
 use Rattle.table.specs.declared.Refusal.{Refusal}
-use Rattle.table.specs.declared.Refusal.the-variants.{Unfit, ClockEnd, Power}
-use Rattle.table.specs.Refusals.{startGives}
+use Rattle.table.specs.declared.Refusal.the-variants.{Unfit, ClockEnd}
+use Rattle.table.specs.declared.Reading.the-variants as read
+use Rattle.table.specs.Refusals.{admissionGives, startGives, releaseGives, stepGives, energyGives}
+use Rattle.table.specs.Sound.{readOf}
 use Rattle.table.specs.Rules.{Sound-table}
-use Rattle.table.specs.Applies.{Lowest, Table-applies}
 use Rattle.table.proofs.SoundLaws.{sound-read}
+use Rattle.admission.specs.declared.Answer.the-variants as verdict
+use Rattle.admission.specs.Verdicts.{verdict, zeros, admitOf}
+use Rattle.admission.proofs.RefusedLaws as admission
 use Rattle.scheduler.specs.declared.State.{State}
 use Rattle.scheduler.specs.declared.Tally.{Tally}
 use Rattle.scheduler.specs.declared.Tick.{Tick}
@@ -27,23 +29,37 @@ use Rattle.scheduler.specs.Fresh.{Fresh}
 use Rattle.scheduler.specs.Releases.{releaseOf}
 use Rattle.scheduler.specs.Steps.{tickOf, stepOf}
 use Rattle.scheduler.specs.Energies.{powerMost, energyOf}
-use Rattle.scheduler.specs.Applies.{Release-applies, Releasable, Rules-kept, Step-applies}
+use Rattle.scheduler.specs.Applies.{Releasable, Rules-kept}
 use Rattle.scheduler.specs.History.{Own, Call, history}
 use Rattle.scheduler.proofs.HistoryLaws.{history-kept, history-counted}
+use Rattle.scheduler.proofs.RefusalLaws as refusals
 use Rattle.scheduler.proofs.AnswerLaws as laws
+
+-- NO CALL GIVES ANOTHER NUMBER than those that `givers` (table/specs/Refusals.antt) has for it: admission 1 to 5, a
+-- start 1 to 4, a release 6 to 12, a step 6 and 7, an energy reading 6 and 13.
+pub admission-gives : (bytes : List ℕ) (r : Refusal) → admitOf bytes .answer ≡ verdict.Refused r → admissionGives r ≡ true
+admission-gives = admission.admission-gives
+
+pub start-gives : (g : Given) (r : Refusal) → startOf g .answer ≡ Refused r → startGives r ≡ true
+start-gives = laws.start-gives-only
+
+pub release-gives : (s : State) (task demand : ℕ) (r : Refusal) → releaseOf s task demand .answer ≡ Refused r → releaseGives r ≡ true
+release-gives = refusals.release-gives
+
+pub step-gives : (s : State) (t : Tally) (r : Refusal) → stepOf s t .answer ≡ ticked.Refused r → stepGives r ≡ true
+step-gives = refusals.step-gives
+
+pub energy-gives : (t : Tally) (run sleep : ℕ) (r : Refusal) → energyOf t run sleep .answer ≡ Refused r → energyGives r ≡ true
+energy-gives t run sleep r e = refusals.energy-refused t run sleep r e .1
+
+-- A TABLE THAT IS NOT SOUND gets the refusal of its reading, and zeros.
+pub unsound-refused : (bytes : List ℕ) (refusal : Refusal) → readOf bytes ≡ read.Refused refusal
+    → admitOf bytes ≡ verdict (verdict.Refused refusal) zeros zeros zeros
+unsound-refused bytes refusal e = rw e
 
 -- A START is accepted exactly when the table is sound.
 pub start-is-accepted : (g : Given) → (startOf g .answer ≡ Accepted) ↔ ((n : ℕ) × Sound-table (g .table) n)
 start-is-accepted = laws.start-accepted-exactly
-
--- A start gives 1 to 4 and no other refusal.
-pub start-gives-1-to-4 : (g : Given) (r : Refusal) → startOf g .answer ≡ Refused r → startGives r ≡ true
-start-gives-1-to-4 = laws.start-gives-only
-
--- A start gets a refusal exactly when that one applies to the table and none with a lower number does: so each of 1 to
--- 4, in the words of `Table-applies`, with the first such record, number 2 over all records before 3 is considered.
-pub start-is-refused : (g : Given) (r : Refusal) → (startOf g .answer ≡ Refused r) ↔ Lowest (Table-applies (g .table)) r
-start-is-refused = laws.start-refused-exactly
 
 -- A start on a sound table, also on a set that would get 5, is accepted and hands back the table, clock 0 and every
 -- task resting with the mark "never", with only spare places after them.
@@ -53,12 +69,6 @@ start-hands-back g n S = (start-is-accepted g .1 (n, S), laws.start-hands-back g
 -- A RELEASE gets 6 exactly when the state breaks a rule under "State".
 pub release-gets-6 : (s : State) (task demand : ℕ) → (releaseOf s task demand .answer ≡ Refused Unfit) ↔ (Lawful-state s → ⊥)
 release-gets-6 = laws.release-six-exactly
-
--- A release gets a refusal exactly when that one applies and none with a lower number does: so each of 6 to 12, in the
--- words of `Release-applies`, and no other.
-pub release-is-refused : (s : State) (task demand : ℕ) (r : Refusal)
-    → (releaseOf s task demand .answer ≡ Refused r) ↔ Lowest (Release-applies s task demand) r
-release-is-refused = laws.release-refused-exactly
 
 -- A release is accepted exactly when the state keeps its rules, the clock is before its end, the task is 1 to n, the
 -- demand is 1 to C, task 1 is released at a multiple of H, the task rests, and its last release is T ticks ago or more.
@@ -74,22 +84,13 @@ step-gets-6 = laws.step-six-exactly
 pub step-gets-7 : (s : State) (t : Tally) → (stepOf s t .answer ≡ ticked.Refused ClockEnd) ↔ (Rules-kept s t × (s .clock ≡ clockEnd))
 step-gets-7 = laws.step-seven-exactly
 
--- A step gets a refusal exactly when that one applies and none with a lower number does: so 6 or 7, and no other.
-pub step-is-refused : (s : State) (t : Tally) (r : Refusal) → (stepOf s t .answer ≡ ticked.Refused r) ↔ Lowest (Step-applies s t) r
-step-is-refused = laws.step-refused-exactly
-
 -- A step answers a tick exactly when state and tally keep their rules, the clock is before its end and the tick is the
 -- one of that state (in words: demand 2).
 pub step-answers-a-tick : (s : State) (t : Tally) (tick : Tick)
     → (stepOf s t .answer ≡ ticked.Tick tick) ↔ (Rules-kept s t × (s .clock < clockEnd) × (tickOf s ≡ tick))
 step-answers-a-tick = laws.step-ticks-exactly
 
--- AN ENERGY READING gets 13 exactly when 6 does not apply and a power figure is above 1,000,000 microwatts.
-pub energy-gets-13 : (t : Tally) (run sleep : ℕ)
-    → (energyOf t run sleep .answer ≡ Refused Power) ↔ ((total t ≤ clockEnd) × ((powerMost < run) ⊎ (powerMost < sleep)))
-energy-gets-13 = laws.energy-thirteen-exactly
-
--- An energy reading is accepted exactly when the three counts sum to at most 1,000,000,000 and no power figure is above
+-- AN ENERGY READING is accepted exactly when the three counts sum to at most 1,000,000,000 and no power figure is above
 -- 1,000,000 microwatts.
 pub energy-is-accepted : (t : Tally) (run sleep : ℕ)
     → (energyOf t run sleep .answer ≡ Accepted) ↔ ((total t ≤ clockEnd) × (run ≤ powerMost) × (sleep ≤ powerMost))

@@ -24,11 +24,11 @@ use Rattle.scheduler.specs.States.{entryIn, recordIn, periodBefore, stateFits, 
 use Rattle.scheduler.specs.Releases.{askDemand, askTask, mayRelease, releaseAnswer}
 use Rattle.scheduler.specs.Steps.{stepOf}
 use Rattle.scheduler.specs.History.{Call, release, lend, Taken, Finish, next, history}
-use Rattle.scheduler.specs.Jobs.{finishAt, Followed, Was-released, Finishes-at}
+use Rattle.scheduler.specs.Jobs.{Finished, Followed, Was-released, Finishes-at}
 use Rattle.scheduler.specs.Pattern.{dueAt, releasesAt, worstPattern}
 use Rattle.promises.specs.Cases.{bytesOf}
-use Rattle.promises.specs.Demand3.{figureOf, every-job-is-followed, every-job-finishes, every-job-was-released, every-finish-was-released, figure-within-period, each-figure-is-reached}
-use Rattle.promises.specs.Uses.{house, house-sound, house-admitted}
+use Rattle.promises.specs.Demand3.{figureOf, worst, every-job-is-followed, every-job-was-released, every-finish-was-released, figure-within-period, demand-3}
+use Rattle.promises.specs.Uses.{house, house-table, house-admitted}
 
 -- `released` are the releases of the worst pattern up to tick 30, tasks 2 to 4 at 1 and task 1 at 20, and `first` is
 -- the one finish.
@@ -76,34 +76,37 @@ unfolding house bytesOf wordAt recordAt firstFrom askRecords askOrder askSleep r
 figures = (refl, refl, refl, refl)
 
 -- Task 1's release at 20 has finished after it and by 30, as it must have, also where another tally is lent.
-first-finishes : (calls : List Call) → history house calls .taken ≡ released → history house calls .state .clock ≡ 30
-    → (t : ℕ) × (20 < t) × (t ≤ 30) × In (finishAt (record { place = 0; at = 20; demand = 2 }) t) (history house calls .finishes)
-unfolding In released
-first-finishes calls taken clock =
-    rw (figures .0) at (every-job-finishes house 4 calls (record { place = 0; at = 20; demand = 2 }) house-admitted (rw taken (inl refl)) (omega (arith, figures .0, clock)))
+job-1 : Taken
+job-1 = record { place = 0; at = 20; demand = 2 }
 
-house-job-finishes : (t : ℕ) × (20 < t) × (t ≤ 30) × In (finishAt (record { place = 0; at = 20; demand = 2 }) t) (history house thirty .finishes)
+first-finishes : (calls : List Call) → history house calls .taken ≡ released → history house calls .state .clock ≡ 30
+    → Finished 30 (history house calls .finishes) 20 job-1
+unfolding In released job-1
+first-finishes calls taken clock =
+    rw (figures .0) at (demand-3 house 4 .every-job-finishes house-admitted calls job-1 (rw taken (inl refl)) (omega (arith, figures .0, clock)))
+
+house-job-finishes : Finished 30 (history house thirty .finishes) 20 job-1
 house-job-finishes = first-finishes thirty (thirty-is .1) (thirty-is .2)
 
-house-lent-finishes : (t : ℕ) × (20 < t) × (t ≤ 30) × In (finishAt (record { place = 0; at = 20; demand = 2 }) t) (history house lent .finishes)
+house-lent-finishes : Finished 30 (history house lent .finishes) 20 job-1
 house-lent-finishes = first-finishes lent (lent-is .1) (lent-is .2)
 
 -- Task 4's release at 1 is followed: it is at work with all of its 4 ticks.
 house-job-is-followed : Followed (history house thirty) (record { place = 3; at = 1; demand = 4 })
 unfolding In released
-house-job-is-followed = every-job-is-followed house 4 thirty (record { place = 3; at = 1; demand = 4 }) house-sound (rw (thirty-is .1) (inr (inl refl)))
+house-job-is-followed = every-job-is-followed house 4 house-table thirty (record { place = 3; at = 1; demand = 4 }) (rw (thirty-is .1) (inr (inl refl)))
 
 -- Task 4's job at work and task 1's finish are both among the accepted releases.
 house-job-was-released : Was-released (history house thirty .taken) 3 1
-house-job-was-released = every-job-was-released house 4 3 1 4 thirty house-sound (omega arith) (thirty-is .4)
+house-job-was-released = every-job-was-released house 4 house-table 3 1 4 thirty (omega arith) (thirty-is .4)
 
 house-finish-was-released : Was-released (history house thirty .taken) 0 20
 unfolding In first
-house-finish-was-released = every-finish-was-released house 4 thirty first house-sound (rw (thirty-is .0) (inl refl))
+house-finish-was-released = every-finish-was-released house 4 house-table thirty first (rw (thirty-is .0) (inl refl))
 
 -- Task 4's job finishes at 39, its figure 38 after its release, which is within its period.
-house-finish-at-figure : Finishes-at (history house (worstPattern (rulesOf (house .table)) 4 39)) 3 1 39
-house-finish-at-figure = rw (figures .1, figures .2) at (each-figure-is-reached house 4 3 house-admitted (omega arith))
+house-finish-at-figure : Finishes-at (worst house 4 39) 3 1 39
+house-finish-at-figure = rw (figures .1, figures .2) at (demand-3 house 4 .each-figure-is-reached house-admitted 3 (omega arith))
 
 house-figure-within : 38 ≤ 200
-house-figure-within = rw (figures .1, figures .3) at (figure-within-period house 4 3 house-admitted (omega arith))
+house-figure-within = rw (figures .1, figures .3) at (figure-within-period house 4 house-admitted 3 (omega arith))

@@ -1,21 +1,21 @@
 -- Document 01's cases A to I hold.
 pub mod Cases
--- Demand 1 says what a refusal is.
+-- Any two results that a promise allows are equal.
+pub mod Settled
+-- Demand 1, on one page, says what is refused, when, and that nothing changes then.
 pub mod Demand1
--- The answers say which refusal each call gives, and when it gives none.
+-- The answers say more of it: when a call is accepted, and that along a history no call gets 6.
 pub mod Answers
--- Demand 2 says what each tick is, who is admitted, and which the figures and counts are.
+-- Demand 2, on one page, says what each tick is, who is admitted, and which the figures and counts are.
 pub mod Demand2
--- Demand 3 says that every job finishes, that each figure is reached, that who fails is late, and that a tail tick
--- brings rest.
+-- Demand 3, on one page, says that every job finishes, that each figure is reached, that who fails is late, and that a
+-- tail tick brings rest.
 pub mod Demand3
 -- A state is saved in words and restored.
 pub mod Saved
 -- Numbers, answers and the order of words are held against literal numbers.
 pub mod Pinned
--- The theorems on admission and of demand 3 are used on the house table or on a refused set.
+-- Every theorem that has hypotheses is used with all of them met.
 pub mod Uses
 -- That every job finishes is used on the house table's worst pattern.
 pub mod HouseJobs
--- Any two results that a promise allows are equal.
-pub mod Settled

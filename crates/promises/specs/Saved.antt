@@ -1,5 +1,6 @@
 -- A state may lie in 32-bit words, for firmware: it is read back, called on and stopped in between. The calls of crate
--- `node` are given by `admitOn`, `startOn`, `releaseOn`, `stepOn` and `energyOn` of its specs/Calls.antt.
+-- `node` are given by `admitOn`, `startOn`, `releaseOn`, `stepOn` and `energyOn` of its specs/Calls.antt; that a refused
+-- one leaves every word is in Demand1.antt.
 use Prim.Native.Nat.{ℕ, _+_, _*_, _/_, _%_, _<_, _≤_}
 use mathlib.Core.Path.{_≡_, refl, sym, _∙_, ap}
 use mathlib.Core.List.{List, _++_}
@@ -19,10 +20,9 @@ use Rattle.scheduler.specs.Steps.{stepOf}
 use Rattle.scheduler.specs.History.{Call, Past, next, after, begun, history}
 use Rattle.scheduler.proofs.HistoryLaws.{kept-begun, history-kept}
 use Rattle.node.specs.Layout.{stateSize, tallySize, stateWords, tallyWords, stateIn, tallyIn, encoded, tallyEncoded}
-use Rattle.node.specs.Calls.{packed, StateLeft, admitOn, startOn, releasedOn, releaseOn, movedOn, stepOn}
+use Rattle.node.specs.Calls.{packed, StateLeft, startOn, releasedOn, releaseOn, movedOn, stepOn}
 use Rattle.node.specs.Saved.{calledAll, saved, restored}
 use Rattle.node.proofs.LayoutLaws as layout
-use Rattle.node.proofs.CallLaws as on
 use Rattle.node.proofs.SavedLaws as saving
 
 -- READING BACK: a state of 16 places, and a tally, are read back as they were written.
@@ -47,19 +47,6 @@ release-on-words words task demand e = rw e
 pub step-on-words : (words tally : List ℕ) → encoded words ≡ true → tallyEncoded tally ≡ true → stepOn words tally ≡ movedOn (stepOf (stateIn words) (tallyIn tally))
 unfolding stepOn
 step-on-words words tally e c = rw (e, c)
-
--- A REFUSED CALL leaves every word as it was, but for number 5, which comes back with the verdict.
-pub admit-leaves-words : (table words : List ℕ) → 1 ≤ admitOn table words .answer % 256 → (admitOn table words .answer % 256 ≡ 5 → ⊥) → admitOn table words .verdict ≡ words
-admit-leaves-words = on.admit-leaves
-
-pub start-leaves-words : (table words : List ℕ) → 1 ≤ startOn table words .answer % 256 → startOn table words .state ≡ words
-start-leaves-words = on.start-leaves
-
-pub release-leaves-words : (words : List ℕ) (task demand : ℕ) → 1 ≤ releaseOn words task demand .answer % 256 → releaseOn words task demand .state ≡ words
-release-leaves-words = on.release-leaves
-
-pub step-leaves-words : (words tally : List ℕ) → 1 ≤ stepOn words tally .answer % 256 → (stepOn words tally .state ≡ words) × (stepOn words tally .tally ≡ tally)
-step-leaves-words = on.step-leaves
 
 -- THE WORDS FOLLOW THE HISTORY: over every list of calls from an accepted start, the buffers hold the words of the
 -- history's state and tally.

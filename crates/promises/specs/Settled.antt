@@ -21,15 +21,15 @@ use Rattle.node.proofs as node
 -- A contract over a signature f has two halves: κs are its lifetimes, a its arguments, x its result, s its parameters
 -- at exit.
 module _ (f : Ended) where
-  abbrev Asks : Type 1
+  abbrev pub Asks : Type 1
   Asks = (κs : Lfts (f .signature .lifetimes)) → Args (f .signature) κs → Type 0
 
-  abbrev Tells : Type 1
+  abbrev pub Tells : Type 1
   Tells = (κs : Lfts (f .signature .lifetimes)) (a : Args (f .signature) κs) (x : Res (f .signature) κs) (s : AtExit f κs) → Type 0
 
   -- Any arguments may be passed; and any two results x and y that a caller may learn of are equal, as are v and w, what
   -- is left in the lent buffers with each.
-  abbrev Settles : Asks → Tells → Type 0
+  abbrev pub Settles : Asks → Tells → Type 0
   Settles Asked Learnt =
       (κs : Lfts (f .signature .lifetimes)) (a : Args (f .signature) κs) →
       Asked κs a × ((x y : Res (f .signature) κs) (v w : Lasts f κs a) → Learnt κs a x (atExit f κs a v) → Learnt κs a y (atExit f κs a w) → (x ≡ y) × (v ≡ w))
@@ -67,35 +67,35 @@ tell : Settles table.tell.ended table.tell.Reads.Asked table.tell.Reads.Learnt
 tell κs a = settled (λ x v p. (p, refl))
 
 -- The public function of crate admission is settled.
-admit : Settles admission.admit.ended admission.admit.Reads.Asked admission.admit.Reads.Learnt
+pub admit : Settles admission.admit.ended admission.admit.Reads.Asked admission.admit.Reads.Learnt
 admit κs a = settled (λ x v p. (p, refl))
 
 -- The public functions of crate scheduler are settled: the answer and the state handed back stand in one result, and
 -- `step` is lent the tally besides.
-start : Settles scheduler.start.ended scheduler.start.Reads.Asked scheduler.start.Reads.Learnt
+pub start : Settles scheduler.start.ended scheduler.start.Reads.Asked scheduler.start.Reads.Learnt
 start κs a = settled (λ x v p. (p, refl))
 
-release : Settles scheduler.release.ended scheduler.release.Reads.Asked scheduler.release.Reads.Learnt
+pub release : Settles scheduler.release.ended scheduler.release.Reads.Asked scheduler.release.Reads.Learnt
 release κs a = settled (λ x v p. (p, refl))
 
 -- `step` is walked by hand, since it is lent a struct, and the kit then exports its clauses and no reading of them.
 -- They are read here, by the lemmas with which the kit reads the others.
-abbrev step-clauses : (m : World) → Clauses (m .𝓤) scheduler.step.ended
+abbrev pub step-clauses : (m : World) → Clauses (m .𝓤) scheduler.step.ended
 step-clauses m = scheduler.step.clauses (m .𝓤) (m .H) (m .𝓖 .A) (m .𝓜 .mem) (m .𝓡 .run)
 
-abbrev step-asked : Asks scheduler.step.ended
+abbrev pub step-asked : Asks scheduler.step.ended
 step-asked κs a = AllOf (all-models {Base = λ m. emp (m .𝓤)} {Know = no-know} (λ m. step-clauses m κs a .requires tt) (λ m. r-top) (λ m. refl) (λ m. refl) (λ m. refl) .owes)
 
-abbrev step-learnt : Tells scheduler.step.ended
+abbrev pub step-learnt : Tells scheduler.step.ended
 step-learnt κs a x s = AllOf (all-models {Base = λ m. emp (m .𝓤)} {Know = no-know} (λ m. step-clauses m κs a .ensures tt x s) (λ m. r-last _) (λ m. refl) (λ m. refl) (λ m. refl) .tells)
 
-step : Settles scheduler.step.ended step-asked step-learnt
+pub step : Settles scheduler.step.ended step-asked step-learnt
 step κs a = settled (λ x v p. (p .0, λ i. (tt, (p .1 i, tt))))
 
 step-on : Settles scheduler.step_on.ended scheduler.step_on.Reads.Asked scheduler.step_on.Reads.Learnt
 step-on κs a = settled (λ x v p. (p, refl))
 
-energy : Settles scheduler.energy.ended scheduler.energy.Reads.Asked scheduler.energy.Reads.Learnt
+pub energy : Settles scheduler.energy.ended scheduler.energy.Reads.Asked scheduler.energy.Reads.Learnt
 energy κs a = settled (λ x v p. (p, refl))
 
 head-fits : Settles scheduler.head_fits.ended scheduler.head_fits.Reads.Asked scheduler.head_fits.Reads.Learnt
@@ -136,17 +136,17 @@ listing : Settles texts.listing.ended texts.listing.Reads.Asked texts.listing.Re
 listing κs a = settled (λ x v p. (p, refl))
 
 -- The public functions of crate node are settled: the answer, and what is left in each lent buffer.
-node-admit : Settles node.node_admit.ended node.node_admit.Reads.Asked node.node_admit.Reads.Learnt
+pub node-admit : Settles node.node_admit.ended node.node_admit.Reads.Asked node.node_admit.Reads.Learnt
 node-admit κs a = settled (λ x v p. (p .0, λ i. (tt, (p .1 i, tt))))
 
-node-start : Settles node.node_start.ended node.node_start.Reads.Asked node.node_start.Reads.Learnt
+pub node-start : Settles node.node_start.ended node.node_start.Reads.Asked node.node_start.Reads.Learnt
 node-start κs a = settled (λ x v p. (p .0, λ i. (tt, (p .1 i, tt))))
 
-node-release : Settles node.node_release.ended node.node_release.Reads.Asked node.node_release.Reads.Learnt
+pub node-release : Settles node.node_release.ended node.node_release.Reads.Asked node.node_release.Reads.Learnt
 node-release κs a = settled (λ x v p. (p .0, λ i. (p .1 i, (tt, (tt, tt)))))
 
-node-step : Settles node.node_step.ended node.node_step.Reads.Asked node.node_step.Reads.Learnt
+pub node-step : Settles node.node_step.ended node.node_step.Reads.Asked node.node_step.Reads.Learnt
 node-step κs a = settled (λ x v p. (p .0, λ i. (p .1 i, (p .2 i, tt))))
 
-node-energy : Settles node.node_energy.ended node.node_energy.Reads.Asked node.node_energy.Reads.Learnt
+pub node-energy : Settles node.node_energy.ended node.node_energy.Reads.Asked node.node_energy.Reads.Learnt
 node-energy κs a = settled (λ x v p. (p, refl))

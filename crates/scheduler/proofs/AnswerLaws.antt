@@ -38,8 +38,8 @@ use Rattle.scheduler.specs.Lawful.{Lawful-state}
 use Rattle.scheduler.specs.Starts.{Given, startedFrom, startOf}
 use Rattle.scheduler.specs.Releases.{working, early, askSpacing, askTime, askDemand, askTask, mayRelease, releaseAnswer, releasedFrom, releaseOf}
 use Rattle.scheduler.specs.Steps.{tickOf, mayStep, stepFrom, stepOf}
-use Rattle.scheduler.specs.Energies.{powerMost, energyOf}
-use Rattle.scheduler.specs.Applies.{Release-applies, Releasable, Rules-kept, Step-applies}
+use Rattle.scheduler.specs.Energies.{powerMost, energyIn, energyOf}
+use Rattle.scheduler.specs.Applies.{Release-applies, Releasable, Rules-kept, Step-applies, Energy-applies}
 use Rattle.scheduler.specs.Fresh.{Fresh}
 use Rattle.scheduler.proofs.StateLaws.{fits-says, says-fits}
 use Rattle.scheduler.proofs.ReleaseLaws.{accepted-says, says-accepted, refused-not}
@@ -346,20 +346,34 @@ energy-is t run sleep = by-lt clockEnd (total t) (Energy-is t run sleep)
     (λ l. too-strong few (inr l) (rw (le-ltb _ _ few, le-ltb _ _ low, lt-ltb _ _ l)))
     (λ weak. reads few low weak (rw (le-ltb _ _ few, le-ltb _ _ low, le-ltb _ _ weak)))))
 
--- AN ENERGY READING GETS 13 exactly where 6 does not apply and a power figure is above its largest.
-pub energy-thirteen-exactly : (t : Tally) (run sleep : ℕ)
-    → (energyOf t run sleep .answer ≡ Refused refusal.Power) ↔ ((total t ≤ clockEnd) × ((powerMost < run) ⊎ (powerMost < sleep)))
-energy-thirteen-exactly t run sleep = (to (energy-is t run sleep), from (energy-is t run sleep))
+-- AN ENERGY READING IS REFUSED exactly with the lowest number that applies.
+pub energy-refused-exactly : (t : Tally) (run sleep : ℕ) (r : Refusal) → (energyOf t run sleep .answer ≡ Refused r) ↔ Lowest (Energy-applies t run sleep) r
+energy-refused-exactly t run sleep r = (to (energy-is t run sleep), λ L. from (energy-is t run sleep) L (L .applies))
   where
-    to : Energy-is t run sleep → energyOf t run sleep .answer ≡ Refused refusal.Power → (total t ≤ clockEnd) × ((powerMost < run) ⊎ (powerMost < sleep))
-    to (too-long l q) e = let z : _≡_ {A = ℕ} 0 1 = cc in absurd (let y : ⊥ = omega arith in y)
-    to (too-strong few p q) e = (few, p)
+    to : Energy-is t run sleep → energyOf t run sleep .answer ≡ Refused r → Lowest (Energy-applies t run sleep) r
+    to (too-long l q) e =
+        let w : Refused refusal.Unfit ≡ Refused r = sym q ∙ e in
+        let same : refusal.Unfit ≡ r = cc in
+        subst (Lowest (Energy-applies t run sleep)) same (record {
+          applies = inl (refl, l);
+          none-lower = λ p lower a. ⊎-elim (λ u. omega (arith, ap number (u .0))) (λ u. omega (arith, ap number (u .0))) a;
+        })
+    to (too-strong few p q) e =
+        let w : Refused refusal.Power ≡ Refused r = sym q ∙ e in
+        let same : refusal.Power ≡ r = cc in
+        subst (Lowest (Energy-applies t run sleep)) same (record {
+          applies = inr (refl, p);
+          none-lower = λ p lower a. ⊎-elim (λ u. omega (arith, u .1)) (λ u. omega (arith, ap number (u .0))) a;
+        })
     to (reads few r s q) e = let z : _≡_ {A = ℕ} 0 1 = cc in absurd (let y : ⊥ = omega arith in y)
 
-    from : Energy-is t run sleep → (total t ≤ clockEnd) × ((powerMost < run) ⊎ (powerMost < sleep)) → energyOf t run sleep .answer ≡ Refused refusal.Power
-    from (too-long l q) f = absurd (let z : ⊥ = omega (arith, f .0) in z)
-    from (too-strong few p q) f = q
-    from (reads few r s q) f = ⊎-elim (λ l. absurd (let z : ⊥ = omega arith in z)) (λ l. absurd (let z : ⊥ = omega arith in z)) (f .1)
+    from : Energy-is t run sleep → Lowest (Energy-applies t run sleep) r → Energy-applies t run sleep r → energyOf t run sleep .answer ≡ Refused r
+    from (too-long l q) L (inl u) = q ∙ ap Refused (sym (u .0))
+    from (too-long l q) L (inr u) = absurd (L .none-lower refusal.Unfit (omega (arith, ap number (u .0))) (inl (refl, l)))
+    from (too-strong few p q) L (inl u) = absurd (let z : ⊥ = omega (arith, u .1) in z)
+    from (too-strong few p q) L (inr u) = q ∙ ap Refused (sym (u .0))
+    from (reads few low weak q) L (inl u) = absurd (let z : ⊥ = omega (arith, u .1) in z)
+    from (reads few low weak q) L (inr u) = ⊎-elim (λ l. absurd (let z : ⊥ = omega arith in z)) (λ l. absurd (let z : ⊥ = omega arith in z)) (u .1)
 
 -- AN ENERGY READING IS MADE exactly where neither 6 nor 13 applies.
 pub energy-accepted-exactly : (t : Tally) (run sleep : ℕ)
@@ -375,3 +389,9 @@ energy-accepted-exactly t run sleep = (to (energy-is t run sleep), from (energy-
     from (too-long l q) f = absurd (let z : ⊥ = omega (arith, f .0) in z)
     from (too-strong few p q) f = ⊎-elim (λ l. absurd (let z : ⊥ = omega (arith, f .1) in z)) (λ l. absurd (let z : ⊥ = omega (arith, f .2) in z)) p
     from (reads few r s q) f = q
+
+-- An accepted energy reading is the energy of the tally.
+pub energy-reads : (t : Tally) (run sleep : ℕ) → energyOf t run sleep .answer ≡ Accepted → energyOf t run sleep .nanojoules ≡ energyIn t run sleep
+energy-reads t run sleep e =
+    let f = energy-accepted-exactly t run sleep .0 e in
+    rw (le-ltb _ _ (f .0), le-ltb _ _ (f .1), le-ltb _ _ (f .2))

@@ -49,7 +49,7 @@ module _ (since : ℕ) (j : Taken) where
   -- An accepted release keeps a job's standing.
   stands-release : (s : State) (task demand : ℕ) (fs : List Finish) → Sized s → Free-task s task demand → Standing s fs since j
       → Standing (releasedState s task demand) fs since j
-  stands-release s task demand fs size F (done D) = done (record { at = D .at; later = D .later; by-now = D .by-now; noted = D .noted })
+  stands-release s task demand fs size F (done D) = done (record { at = D .at; later = D .later; in-time = D .in-time; noted = D .noted })
   stands-release s task demand fs size F (going l from q) = by-eq (j .place) (task - 1) (Standing (releasedState s task demand) fs since j)
       (λ same.
       let w : Resting ≡ Working (j .at) l = sym (F .resting) ∙ rw same at q in
@@ -58,7 +58,7 @@ module _ (since : ℕ) (j : Taken) where
 
   -- A tick that runs no task keeps a job's standing.
   stands-still : (s : State) (fs : List Finish) → Standing s fs since j → Standing (aged s) fs since j
-  stands-still s fs (done D) = done (record { at = D .at; later = D .later; by-now = omega (arith, D .by-now); noted = D .noted })
+  stands-still s fs (done D) = done (record { at = D .at; later = D .later; in-time = omega (arith, D .in-time); noted = D .noted })
   stands-still s fs (going l from q) = going l (omega (arith, from)) q
 
   -- A run of the task at a place keeps a job's standing.
@@ -68,7 +68,7 @@ module _ (since : ℕ) (j : Taken) where
   stands-run s s' place fs P up (done D) = done (record {
     at = D .at;
     later = D .later;
-    by-now = omega (arith, D .by-now);
+    in-time = omega (arith, D .in-time);
     noted = ended-keeps (finishAt j (D .at)) place (s .clock + 1) fs (entryIn s place .job) (D .noted);
   })
   stands-run s s' place fs P up (going l from q) = by-eq (j .place) place (Standing s' (ended place (s .clock + 1) fs (entryIn s place .job)) since j)
@@ -80,7 +80,7 @@ module _ (since : ℕ) (j : Taken) where
     where
       by-left : j .place ≡ place → (b : Bool) → leb l 1 ≡ b → entryIn s' (j .place) .job ≡ workedJob (Working (j .at) l)
           → Standing s' (ended place (s .clock + 1) fs (Working (j .at) l)) since j
-      by-left same true b is = rw (b, ← same) (done (record { at = s .clock + 1; later = omega (arith, from); by-now = omega arith; noted = inl refl }))
+      by-left same true b is = rw (b, ← same) (done (record { at = s .clock + 1; later = omega (arith, from); in-time = omega arith; noted = inl refl }))
       by-left same false b is = rw b (going (l - 1) (omega (arith, from)) (rw b at is))
 
   -- Every step keeps a job's standing, whatever tally it lends.

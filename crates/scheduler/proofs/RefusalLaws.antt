@@ -111,17 +111,3 @@ energy-refused t run sleep r =
 
     rest : EnergyReading
     rest = cond (ltb powerMost run || ltb powerMost sleep) power read-out
-
--- An energy reading gets 6 exactly where the counts sum to more than the last clock.
-pub energy-six : (t : Tally) (run sleep : ℕ) → (energyOf t run sleep .answer ≡ Refused refusal.Unfit) ↔ (clockEnd < total t)
-energy-six t run sleep = (λ e. to (ltb clockEnd (total t)) refl (ltb powerMost run || ltb powerMost sleep) refl e, λ l. rw (lt-ltb _ _ l))
-  where
-    to : (a : Bool) → ltb clockEnd (total t) ≡ a → (b : Bool) → ltb powerMost run || ltb powerMost sleep ≡ b
-        → energyOf t run sleep .answer ≡ Refused refusal.Unfit → clockEnd < total t
-    to true q b w e = ltb-true _ _ q
-    to false q true w e =
-        let f : Refused refusal.Power ≡ Refused refusal.Unfit = rw (q, w) at e in
-        let z : _≡_ {A = ℕ} 0 1 = cc in absurd (let y : ⊥ = omega arith in y)
-    to false q false w e =
-        let f : Accepted ≡ Refused refusal.Unfit = rw (q, w) at e in
-        let z : _≡_ {A = ℕ} 0 1 = cc in absurd (let y : ⊥ = omega arith in y)

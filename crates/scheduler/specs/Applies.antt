@@ -1,8 +1,9 @@
--- Document 01, "What is turned away", is stated here as facts: when each refusal applies to a release and to a step, in
--- the words of the column "Given exactly when". A start's refusals are those of its table (table/specs/Applies.antt).
+-- Document 01, "What is turned away", is stated here as facts: when each refusal applies to a release, to a step and to
+-- an energy reading, in the words of the column "Given exactly when". A start's refusals are those of its table
+-- (table/specs/Applies.antt).
 use Prim.Native.Nat.{ℕ, _+_, _-_, _%_, _≤_, _<_}
 use mathlib.Core.Path.{_≡_}
-use mathlib.Core.Logic.{_≢_}
+use mathlib.Core.Logic.{_≢_, _⊎_}
 use Rattle.table.specs.declared.Refusal.{Refusal}
 use Rattle.table.specs.declared.Refusal.the-variants as refusal
 use Rattle.scheduler.specs.declared.Job.the-variants.{Resting, Working}
@@ -11,6 +12,7 @@ use Rattle.scheduler.specs.declared.State.{State}
 use Rattle.scheduler.specs.declared.Tally.{Tally}
 use Rattle.scheduler.specs.States.{clockEnd, entryIn, total}
 use Rattle.scheduler.specs.Lawful.{Lawful-state}
+use Rattle.scheduler.specs.Energies.{powerMost}
 
 -- WHEN A REFUSAL APPLIES TO A RELEASE: 6 does where the state breaks a rule, 7 where the clock stands at its end, 8
 -- where the task number is not in 1 to n, 9 where the demand is not in 1 to C, 10 where it is task 1 off a multiple of
@@ -63,3 +65,9 @@ Step-applies s t refusal.OffBoundary = ⊥
 Step-applies s t refusal.Working = ⊥
 Step-applies s t refusal.Early = ⊥
 Step-applies s t refusal.Power = ⊥
+
+-- WHEN A REFUSAL APPLIES TO AN ENERGY READING: 6 does where the counts sum to more than 1,000,000,000, 13 where a power
+-- figure is above 1,000,000 microwatts, and no other one.
+abbrev pub Energy-applies : Tally → ℕ → ℕ → Refusal → Type 0
+Energy-applies t run sleep r =
+    ((r ≡ refusal.Unfit) × (clockEnd < total t)) ⊎ ((r ≡ refusal.Power) × ((powerMost < run) ⊎ (powerMost < sleep)))

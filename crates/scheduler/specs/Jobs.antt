@@ -13,11 +13,11 @@ use Rattle.scheduler.specs.History.{Taken, Finish, Past}
 abbrev pub finishAt : Taken → ℕ → Finish
 finishAt j t = record { place = j .place; release = j .at; at = t }
 
--- The job's finish stands in a list, after the clock `since` and not after the clock now.
-pub record Finished (clock : ℕ) (finishes : List Finish) (since : ℕ) (j : Taken) : Type 0 where
+-- The job's finish stands in a list, after the clock `since` and not after the clock `till`.
+pub record Finished (till : ℕ) (finishes : List Finish) (since : ℕ) (j : Taken) : Type 0 where
   pub at : ℕ
   pub later : since < at
-  pub by-now : at ≤ clock
+  pub in-time : at ≤ till
   pub noted : In (finishAt j at) finishes
 
 -- `Standing` says that the job has finished after the clock `since`, or that it is its task's job now.

@@ -172,3 +172,7 @@ reading-refused-exactly bytes r = go (readOf bytes) (reading-says bytes)
       λ e. let same : q ≡ r = cc in subst (Lowest (Table-applies bytes)) same S,
       λ L. ap Refused (one-lowest (chain bytes) q r S L),
     )
+
+-- No refusal applies to a table that reads as sound.
+pub sound-none-applies : (bytes : List ℕ) (n : ℕ) → readOf bytes ≡ Sound n → (q : Refusal) → Table-applies bytes q → ⊥
+sound-none-applies bytes n e = subst (Says (Table-applies bytes)) e (reading-says bytes)
