@@ -1,0 +1,1 @@
+../../listing/src/main.rt
