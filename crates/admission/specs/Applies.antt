@@ -1,5 +1,5 @@
--- Document 01, "What is turned away", is stated here as facts: when each refusal applies to an admission, in the words
--- of the column "Given exactly when". Its 1 to 4 are those of the table (table/specs/Applies.antt).
+-- RULES 3.1 is stated here as facts: when each refusal applies to an admission, in the words of the column "applies
+-- when". Its 1 to 4 are those of the table (table/specs/Applies.antt).
 use Prim.Native.Nat.{ℕ, _+_, _<_}
 use mathlib.Core.Path.{_≡_}
 use mathlib.Core.Logic.{_⊎_}

@@ -1,5 +1,5 @@
--- The limit and the response figure are those of document 01, "The window", both over the wait for a boundary. Task i
--- of these definitions is task i + 1 of document 01.
+-- The limit and the response figure are those of RULES 9, "The window", both over the wait for a boundary. Task i of
+-- these definitions is task i + 1 of docs/RULES.md.
 use Prim.Native.Nat.{ℕ, _+_, _-_}
 use Rattle.theory.specs.Rules.{Rules}
 

@@ -1,4 +1,4 @@
--- Document 01's admission test is a walk over tasks and rounds, which stops at the first task without a window.
+-- The admission test (RULES 10) is a walk over tasks and rounds, which stops at the first task without a window.
 use Prim.Native.Nat.{ℕ, zero, suc, _+_, _≤_}
 use mathlib.Core.Path.{_≡_}
 use mathlib.Core.List.{List}

@@ -1,5 +1,5 @@
 -- The first of some numbers at which a test holds is the search under every "first such record" and "lowest-numbered
--- task" of document 01.
+-- task" of docs/RULES.md.
 use Prim.Native.Nat.{ℕ, zero, suc, _+_}
 use mathlib.Core.Bool.{Bool, cond}
 

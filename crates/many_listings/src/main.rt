@@ -1,5 +1,5 @@
 // The listings of many tables, built in, stand each under a line with its name: this runs and
-// compares what document 01 says of the admission test and the listing.
+// compares what docs/RULES.md says of the admission test and the listing.
 
 // A draft is a table under construction, as words: four to a record.
 struct Draft {
@@ -15,7 +15,7 @@ fn main() {
     edges();
 }
 
-// These are document 01's sets, A to H, and the three tasks that tell k times H from w.
+// These are the sets of RULES 15, A to H, and the three tasks that tell k times H from w.
 fn sets() {
     show(b"A: the house table\n", house());
     show(

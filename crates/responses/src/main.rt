@@ -1,5 +1,5 @@
-// The worst pattern runs for 2,000 ticks on most of document 01's sets and on three tasks that tell
-// k times H from w: each task's figure and largest response are written. On a set that is refused
+// The worst pattern runs for 2,000 ticks on most sets of RULES 15 and on three tasks that tell k
+// times H from w: each task's figure and largest response are written. On a set that is refused
 // with 5 the pattern is given to the tasks up to the failing one.
 use admission::Answer;
 use admission::admit;

@@ -1,6 +1,5 @@
--- Document 01, "What is turned away", is stated here as facts: when each refusal applies to a release, to a step and to
--- an energy reading, in the words of the column "Given exactly when". A start's refusals are those of its table
--- (table/specs/Applies.antt).
+-- RULES 3.1 is stated here as facts: when each refusal applies to a release, to a step and to an energy reading, in the
+-- words of the column "applies when". A start's refusals are those of its table (table/specs/Applies.antt).
 use Prim.Native.Nat.{ℕ, _+_, _-_, _%_, _≤_, _<_}
 use mathlib.Core.Path.{_≡_}
 use mathlib.Core.Logic.{_≢_, _⊎_}

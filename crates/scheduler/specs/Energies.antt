@@ -1,4 +1,4 @@
--- The energy of a tally is document 01's: it is counted in nanojoules, and powers in microwatts.
+-- The energy of a tally (RULES 8.5) is counted in nanojoules, and powers in microwatts.
 use Prim.Native.Nat.{ℕ, _+_, _*_}
 use mathlib.Core.Bool.{cond, _||_}
 use lib.Dec.{ltb}

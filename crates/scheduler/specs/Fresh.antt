@@ -1,4 +1,4 @@
--- What an accepted start hands back is stated here as facts, as document 01 says it.
+-- What an accepted start hands back (RULES 5.3) is stated here as facts.
 use Prim.Native.Nat.{ℕ, _≤_, _<_}
 use mathlib.Core.Path.{_≡_}
 use mathlib.Core.List.{List}

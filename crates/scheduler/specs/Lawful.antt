@@ -1,4 +1,4 @@
--- Document 01, "State", is stated here as facts: what it means that a state keeps its rules. `stateFits` tests exactly
+-- RULES 4, "State", is stated here as facts: what it means that a state keeps its rules. `stateFits` tests exactly
 -- these (proofs/StateLaws.antt).
 use Prim.Native.Nat.{ℕ, _≤_, _<_}
 use mathlib.Core.Path.{_≡_}

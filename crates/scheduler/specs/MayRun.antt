@@ -1,4 +1,4 @@
--- Document 01, "One tick", is stated here as facts: which job may run at the clock, and which task runs.
+-- RULES 7.2 to 7.6 are stated here as facts: which job may run at the clock, and which task runs.
 use Prim.Native.Nat.{ℕ, _-_, _≤_, _<_}
 use mathlib.Core.Path.{_≡_}
 use Rattle.theory.specs.Rules.{ready}

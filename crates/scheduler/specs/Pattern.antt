@@ -1,4 +1,4 @@
--- The worst pattern of document 01 releases task 1 at tick H and every T after, each other task at tick 1 and every T
+-- The worst pattern (RULES 11) releases task 1 at tick H and every T after, each other task at tick 1 and every T
 -- after, all with full demand. Here it is the list of its calls: each tick, releases in table order, then a step.
 use Prim.Native.Nat.{ℕ, zero, suc, _+_, _-_, _%_}
 use mathlib.Core.List.{List, [], _∷_, _++_}

@@ -1,4 +1,4 @@
--- A release is defined as in document 01, with refusals 6 to 12 in their order.
+-- A release (RULES 6) is defined here, with refusals 6 to 12 in their order.
 use Prim.Native.Nat.{ℕ, _+_, _-_}
 use mathlib.Core.Bool.{Bool, true, false, cond, _&&_}
 use lib.Dec.{leb, ltb}

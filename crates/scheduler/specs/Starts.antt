@@ -1,4 +1,4 @@
--- This file defines what a start hands back, as document 01 says it.
+-- This file defines what a start hands back (RULES 5).
 use Prim.Native.Nat.{ℕ}
 use mathlib.Core.List.{List}
 use lib.ListN.{replicate}

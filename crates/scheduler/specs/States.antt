@@ -1,4 +1,4 @@
--- Document 01, "State", is defined here: what a state holds, and the rules that are checked for refusal 6.
+-- RULES 4, "State", is defined here: what a state holds, and the rules that are checked for refusal 6.
 use Prim.Native.Nat.{ℕ, zero, suc, _+_}
 use mathlib.Core.List.{List}
 use mathlib.Core.Bool.{Bool, true, false, cond, _&&_}

@@ -1,4 +1,4 @@
--- Document 01, "One tick", is defined here: a tick is slot, run or tail.
+-- RULES 7, "One tick", is defined here: a tick is slot, run or tail.
 use Prim.Native.Nat.{ℕ, _+_, _-_, _%_, _≤_, _<_}
 use mathlib.Core.Bool.{Bool, false, cond, _&&_}
 use lib.Dec.{leb, ltb}

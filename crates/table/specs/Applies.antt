@@ -1,5 +1,5 @@
--- Document 01, "What is turned away", stands here as facts: when each of 1 to 4 applies to a table, in the words of the
--- column "Given exactly when", and which of the refusals that apply is given.
+-- RULES 3.1 to 3.3 stand here as facts: when each of 1 to 4 applies to a table, in the words of the column "applies
+-- when", and which of the refusals that apply is given.
 use Prim.Native.Nat.{ℕ, _+_, _-_, _%_, _≤_, _<_}
 use mathlib.Core.Path.{_≡_}
 use mathlib.Core.Logic.{_≢_, _⊎_}

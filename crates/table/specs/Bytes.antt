@@ -1,4 +1,4 @@
--- Document 01, "The table", has records of 16 bytes, whose numbers are little-endian, 32 bits each.
+-- A table (RULES 2) has records of 16 bytes, whose numbers are little-endian, 32 bits each.
 use Prim.Native.Nat.{ℕ, _+_, _*_, _/_}
 use mathlib.Core.List.{List}
 use mathlib.Core.Bool.{cond}

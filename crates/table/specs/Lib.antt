@@ -1,4 +1,4 @@
--- This module defines the refusals of document 01, with their numbers and the calls that give them.
+-- This module defines the refusals of RULES 3, with their numbers and the calls that give them.
 pub mod Refusals
 -- This module defines words and records in a table's bytes.
 pub mod Bytes

@@ -1,5 +1,4 @@
--- Document 01, "What is turned away", stands here: each refusal's number, what it comes back with, and which calls give
--- it.
+-- RULES 3, "What is refused", stands here: each refusal's number, what it comes back with, and which calls give it.
 use Prim.Native.Nat.{ℕ}
 use mathlib.Core.Bool.{Bool, true, false, _||_}
 use Rattle.table.specs.declared.Refusal.{Refusal}

@@ -1,4 +1,4 @@
--- Document 01, "The table", stands here as facts about records: what it means that a set, or a table, is sound.
+-- RULES 2, "The table", stands here as facts about records: what it means that a set, or a table, is sound.
 -- `readOf` tests exactly these (proofs/SoundLaws.antt).
 use Prim.Native.Nat.{ℕ, _+_, _-_, _*_, _%_, _≤_, _<_}
 use mathlib.Core.Path.{_≡_}

@@ -1,5 +1,5 @@
 -- This is the set that a table describes, as the theory's rules: task j of the theory (from 0) is task j + 1 of
--- document 01.
+-- docs/RULES.md.
 use Prim.Native.Nat.{ℕ, _+_, _-_, _<_}
 use mathlib.Core.Path.{_≡_}
 use mathlib.Core.List.{List}

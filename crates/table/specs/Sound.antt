@@ -1,6 +1,6 @@
--- Document 01, "The table" and refusals 1 to 4, stands here: the rules of a set, given by its records by number (record
--- 0 is the sleep record), and the first refusal that applies. The rules speak of records by number, not of bytes, so
--- that a state that holds its records elsewhere is held to the same ones.
+-- RULES 2, "The table", and refusals 1 to 4 of RULES 3 stand here: the rules of a set, given by its records by number
+-- (record 0 is the sleep record), and the first refusal that applies. The rules speak of records by number, not of
+-- bytes, so that a state that holds its records elsewhere is held to the same ones.
 use Prim.Native.Nat.{ℕ, _+_, _-_, _%_}
 use mathlib.Core.List.{List}
 use mathlib.Core.Bool.{Bool, cond, not, _&&_}

@@ -28,7 +28,7 @@ pub struct Record {
     pub reserved: u32,
 }
 
-// These refusals are what is turned away, in the order of document 01's numbers 1 to 13.
+// These refusals are what is turned away, in the order of their numbers, 1 to 13 (RULES 3.1).
 pub enum Refusal {
     Length,
     Broken { record: u32 },
@@ -45,7 +45,7 @@ pub enum Refusal {
     Power,
 }
 
-// This is a refusal as document 01 gives it: its number, the record or task that comes back with
+// This is a refusal as RULES 3.1 gives it: its number, the record or task that comes back with
 // it, and the rounds spent; what it does not come back with is 0.
 pub struct Told {
     pub number: u32,

@@ -1,4 +1,4 @@
--- This is document 01's listing as text, in ASCII codes.
+-- This is the listing (RULES 12) as text, in ASCII codes.
 use Prim.Native.Nat.{ℕ, zero, suc, _+_, _-_, _/_, _%_}
 use mathlib.Core.List.{List, [], _∷_, _++_}
 use mathlib.Core.Bool.{cond}

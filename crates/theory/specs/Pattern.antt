@@ -1,4 +1,4 @@
--- Document 01's worst pattern releases each task first at its offset.
+-- The worst pattern (RULES 11) releases each task first at its offset.
 use Prim.Native.Nat.{ℕ, zero, suc}
 use Rattle.theory.specs.Rules.{Rules}
 

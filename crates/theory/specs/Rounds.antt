@@ -1,4 +1,4 @@
--- These are document 01's rounds as they are computed, and what their outcome says: a window is the least, or none is
+-- These are the rounds (RULES 10) as they are computed, and what their outcome says: a window is the least, or none is
 -- within the limit, and the rounds counted are the replacements done.
 use Prim.Native.Nat.{ℕ, zero, suc, _+_, _≤_, _<_}
 use mathlib.Core.Path.{_≡_}

@@ -1,5 +1,5 @@
-// The schedule is run and compared: document 01's case J tick by tick, F's run, every refusal 6 to
-// 13 at small inputs with what came back, and a state for every rule under "State".
+// The schedule is run and compared: case J of RULES 15 tick by tick, F's run, every refusal 6 to 13
+// at small inputs with what came back, and a state for every rule of RULES 4.
 ghost use mathlib.Core.Path.{_≡_};
 ghost use Rattle.scheduler.specs.Steps.{stepOf};
 use scheduler::Answer;
