@@ -1,5 +1,5 @@
--- This file has a set of tasks, the boundary from which a job may run (RULES 7.2), and the demand of a window (RULES
--- 9.2). Task j of these definitions is task j + 1 of docs/RULES.md.
+-- This file has a set of tasks, the boundary from which a job may run (RULES 7.2), and the demand of a window
+-- (RULES 9.2). Task j of these definitions is task j + 1 of docs/RULES.md.
 use Prim.Native.Nat.{ℕ, _+_, _*_}
 use Rattle.base.specs.Sum.{sumTo}
 use Rattle.theory.specs.Round.{ceil}
