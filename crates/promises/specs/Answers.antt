@@ -1,6 +1,6 @@
 -- What the calls answer, beyond demand 1: when a call is accepted, which numbers it gives and no others, what a start
--- hands back, what a table that is not sound gets, and that along a history no call gets 6. `Lawful-state` is document
--- 01's "State", `Sound-table` its "The table"; `Releasable` and `Rules-kept` have its rules in words.
+-- hands back, what a table that is not sound gets, and that along a history no call gets 6. `Lawful-state` is
+-- RULES 4, `Sound-table` RULES 2; `Releasable` and `Rules-kept` have RULES 6 and 7.1 in words.
 use Prim.Native.Nat.{ℕ, _≤_, _<_}
 use mathlib.Core.Path.{_≡_, refl}
 use mathlib.Core.Logic.{_↔_}
@@ -66,7 +66,7 @@ start-is-accepted = laws.start-accepted-exactly
 pub start-hands-back : (g : Given) (n : ℕ) → Sound-table (g .table) n → (startOf g .answer ≡ Accepted) × Fresh (g .table) n (startOf g .state)
 start-hands-back g n S = (start-is-accepted g .1 (n, S), laws.start-hands-back g n S)
 
--- A RELEASE gets 6 exactly when the state breaks a rule under "State".
+-- A RELEASE gets 6 exactly when the state breaks a rule of RULES 4.
 pub release-gets-6 : (s : State) (task demand : ℕ) → (releaseOf s task demand .answer ≡ Refused Unfit) ↔ (Lawful-state s → ⊥)
 release-gets-6 = laws.release-six-exactly
 
@@ -75,8 +75,8 @@ release-gets-6 = laws.release-six-exactly
 pub release-is-accepted : (s : State) (task demand : ℕ) → (releaseOf s task demand .answer ≡ Accepted) ↔ Releasable s task demand
 release-is-accepted = laws.release-accepted-exactly
 
--- A STEP gets 6 exactly when state or tally breaks a rule: the state one under "State", or the tally's three counts do
--- not sum to the clock.
+-- A STEP gets 6 exactly when state or tally breaks a rule: the state one of RULES 4, or the tally's three counts do
+-- not sum to the clock (RULES 8.2).
 pub step-gets-6 : (s : State) (t : Tally) → (stepOf s t .answer ≡ ticked.Refused Unfit) ↔ (Rules-kept s t → ⊥)
 step-gets-6 = laws.step-six-exactly
 

@@ -1,5 +1,5 @@
--- Document 01, "Numbers on both sides", stands here: the cases marked (P), A to I, as one table, and one statement that
--- covers it. Both sides are computed by the definitions that the contracts cite.
+-- RULES 15 stands here: the cases marked (P), A to I, as one table, and one statement that covers it. Both sides are
+-- computed by the definitions that the contracts cite.
 use Prim.Native.Nat.{ℕ, _+_, _/_, _%_}
 use mathlib.Core.Path.{_≡_, refl}
 use mathlib.Core.List.{List, [], _∷_, _++_}

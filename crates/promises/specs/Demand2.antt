@@ -41,7 +41,7 @@ use Rattle.scheduler.proofs.HistoryLaws.{history-kept, history-counted, account
 
 pub record Demand-2 : Type 0 where
   -- "Each tick runs, sleeps or waits exactly as Energy-Saving Rate-Harmonized Scheduling (RTSS 2008) says, in whole ticks
-  -- as document 01 states it." It is said of a state and a tally that keep their rules, before the clock's end; any
+  -- as [docs/RULES.md] states it." It is said of a state and a tally that keep their rules, before the clock's end; any
   -- others are refused (demand 1). The answer is a slot tick exactly where t mod H is below S;
   pub slot-exactly : (s : State) (t : Tally) → Rules-kept s t → s .clock < clockEnd → (stepOf s t .answer ≡ ticked.Tick Slot) ↔ (s .clock % s .sleep .period < s .sleep .work)
   -- a run of task k exactly where it is not below S and k is the lowest-numbered working task whose job may run;
@@ -53,10 +53,10 @@ pub record Demand-2 : Type 0 where
   -- A job released at a may run from the smallest multiple of H that is at least a: `ready h a` is a multiple of h, is at
   -- least a, and is at most every other number that is both.
   pub ready-is-least : (h a : ℕ) → 1 ≤ h → (ready h a % h ≡ 0) × (a ≤ ready h a) × ((m : ℕ) → m % h ≡ 0 → a ≤ m → ready h a ≤ m)
-  -- The state and the tally after the tick are those of document 01 (`made`, with `afterTick` and `raised`).
+  -- The state and the tally after the tick are those of RULES 7 (`made`, with `afterTick` and `raised`).
   pub each-tick : (s : State) (t : Tally) → Rules-kept s t → s .clock < clockEnd → stepOf s t ≡ made s t (tickOf s)
   -- "A sound set is admitted exactly when every task has a window, within its limit, that holds its demand": a table
-  -- reads as sound exactly when document 01's rules hold of it, and a sound one of n tasks is admitted exactly then.
+  -- reads as sound exactly when the rules of RULES 2 hold of it, and a sound one of n tasks is admitted exactly then.
   pub sound-exactly : (bytes : List ℕ) (n : ℕ) → (readOf bytes ≡ read.Sound n) ↔ Sound-table bytes n
   pub admitted-exactly : (bytes : List ℕ) (n : ℕ) → Sound-table bytes n → (admitOf bytes .answer ≡ Admitted n) ↔ ((i : ℕ) → i < n → Has-window (rulesOf bytes) i)
   -- "the figures and counts reported are the defined ones": whether a sound table is admitted or not, the windows

@@ -1,4 +1,4 @@
--- Document 01's cases A to I hold.
+-- The cases A to I of RULES 15 hold.
 pub mod Cases
 -- Any two results that a promise allows are equal.
 pub mod Settled

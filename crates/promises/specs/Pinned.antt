@@ -25,7 +25,7 @@ use Rattle.node.specs.Calls.{packed, toldAnswer, tickAnswer, energyOn}
 abbrev told : ℕ → ℕ → ℕ → Told
 told number place rounds = record { number = number; place = place; rounds = rounds }
 
--- Document 01's table of refusals has these numbers, in its order, with what comes back.
+-- The table of RULES 3.1 has these numbers, in its order, with what comes back.
 pub refusals-are-told : toldOf Length ∷ toldOf (Broken 7) ∷ toldOf (Falling 9) ∷ toldOf Sleep ∷ toldOf (NoWindow 3 40) ∷ toldOf Unfit ∷ toldOf ClockEnd ∷ toldOf NoTask ∷ toldOf Demand ∷ toldOf OffBoundary ∷ toldOf Working ∷ toldOf Early ∷ toldOf Power ∷ []
     ≡ told 1 0 0 ∷ told 2 7 0 ∷ told 3 9 0 ∷ told 4 0 0 ∷ told 5 3 40 ∷ told 6 0 0 ∷ told 7 0 0 ∷ told 8 0 0 ∷ told 9 0 0 ∷ told 10 0 0 ∷ told 11 0 0 ∷ told 12 0 0 ∷ told 13 0 0 ∷ []
 refusals-are-told = refl
@@ -35,7 +35,7 @@ refusals-are-told = refl
 pub answers-are-packed : toldAnswer (toldOf (NoWindow 3 40)) ∷ tickAnswer (Run 3) ∷ tickAnswer Slot ∷ tickAnswer Tail ∷ [] ≡ 2622213 ∷ 196608 ∷ 256 ∷ 512 ∷ []
 answers-are-packed = refl
 
--- An energy reading has its nanojoules above the low byte: document 01's case J.
+-- An energy reading has its nanojoules above the low byte: case J of RULES 15.
 pub energy-is-packed : energyOn (11 ∷ 16 ∷ 13 ∷ []) 23000 16 ≡ 64886784
 unfolding energyOn
 energy-is-packed = refl

@@ -1,5 +1,5 @@
--- Document 01, "How much each promise must say" (a): for every input, any two results that the contract of a public
--- function allows are equal, and so is what they leave in every lent buffer.
+-- RULES 14.12: for every input, any two results that the contract of a public function allows are equal, and so is what
+-- they leave in every lent buffer.
 -- The hypotheses are the contract itself, as the kit hands it to whoever calls the function: `Asked` is what a caller
 -- has to show, `Learnt` what it learns of the result and of the parameters at exit. So an `ensures` that is weakened or
 -- removed in src/, or a `requires` that is added there, is refused here.
