@@ -22,15 +22,16 @@
  * and how the ticks before were split is unknown.
  *
  * THE CLOCK'S END. A clock at 1,000,000,000, which is 11.57 days of milliseconds, takes no release
- * and no step: 7. To go on, keep the counts of the tally elsewhere and start anew, with a tally of
- * zeros. A start forgets jobs and last releases, so do it while all tasks rest, before the end; a
- * job at work is lost.
+ * and no step: 7. To go on, add the tally's counts to sums kept elsewhere, and start anew with a
+ * tally of zeros. A start forgets jobs and last releases: do it before the end, while all tasks
+ * rest, or the jobs at work are lost.
  *
- * A STOP between two calls loses nothing: saved state and tally go on exactly where they were. A
- * stop inside a call, or while they are saved, can leave a mixture of words from before and after,
- * and some mixtures encode a lawful state that no call can tell from a true one. What helps is two
- * copies of state and tally, and a word that names the good one: copy the good one over the other,
- * make the calls on that, and write the word last. After a stop go on with the copy that it names.
+ * A STOP between two calls: state and tally as they stood then go on exactly as if there had been
+ * none. A stop inside a call, or while they are saved, can leave a mixture of words from before and
+ * after, and some mixtures encode a lawful state that no call can tell from a true one. What helps
+ * is two copies of state and tally, and a word that names the good one: copy the good one over the
+ * other, make the calls of the tick on that, and write the word last, when all else has reached the
+ * memory. After a stop go on with the copy that it names.
  */
 #ifndef LUNDZARGEL_NODE_H
 #define LUNDZARGEL_NODE_H
