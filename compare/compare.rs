@@ -8,7 +8,7 @@ mod model;
 mod node;
 
 use model::{word, STATE_WORDS, TALLY_WORDS, VERDICT_WORDS};
-use node::{node_admit, node_energy, node_release, node_start, node_step, CLOCK_END as END};
+use node::{node_admit, node_energy, node_release, node_start, node_step};
 use std::array::from_fn;
 use std::fmt::Debug;
 use std::process::exit;
@@ -19,6 +19,7 @@ extern "C" {
     fn signal(number: i32, handler: extern "C" fn(i32)) -> usize;
 }
 
+const END: u32 = 1_000_000_000;
 const LONGEST: u32 = 60_000;
 
 // ---- Random numbers (splitmix64) ----
@@ -507,10 +508,18 @@ fn tables(random: &mut Random, both: &mut Both) {
 // ---- Histories ----
 
 // Where the words of a state stand, and from place(i) on those of an entry.
-use node::{place, CLOCK_AT as CLOCK, N_AT as N};
-use node::{JOB_AT as JOB, LAST_AT as BEFORE, PERIOD_AT as PERIOD, WORK_AT as WORK};
-const H: usize = PERIOD;
-const LAST: usize = BEFORE + 1;
+const H: usize = 2;
+const N: usize = 4;
+const CLOCK: usize = 5;
+const WORK: usize = 1;
+const PERIOD: usize = 2;
+const JOB: usize = 4;
+const BEFORE: usize = 7;
+const LAST: usize = 8;
+
+fn place(i: usize) -> usize {
+    6 + 9 * i
+}
 
 #[derive(Clone)]
 struct Node {

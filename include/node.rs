@@ -14,23 +14,11 @@ pub const HEAD_WORDS: usize = 6;
 pub const PLACE_WORDS: usize = 9;
 pub const TALLY_WORDS: usize = 3;
 pub const VERDICT_WORDS: usize = 48;
-/// Where a clock ends.
-pub const CLOCK_END: u32 = 1_000_000_000;
-
-// Where the words of a record stand from its first on, and those of a place after its record's.
-pub const LABEL_AT: usize = 0;
-pub const WORK_AT: usize = 1;
-pub const PERIOD_AT: usize = 2;
-pub const JOB_AT: usize = 4;
-pub const LAST_AT: usize = 7;
-// Where n and the clock stand in a state, whose first words are the sleep record.
+/// The word of a state that holds n, the number of tasks, and the one that holds its clock.
 pub const N_AT: usize = 4;
 pub const CLOCK_AT: usize = 5;
-
-/// Where the words of a place begin in a state, from place 0 on.
-pub const fn place(i: usize) -> usize {
-    HEAD_WORDS + PLACE_WORDS * i
-}
+/// Where a clock ends.
+pub const CLOCK_END: u32 = 1_000_000_000;
 
 pub type State = [u32; STATE_WORDS];
 /// Run, slot and tail ticks.
@@ -182,15 +170,15 @@ pub fn entry(state: &State, task: u32) -> Entry {
     let Some(i) = place_of(task) else {
         return Entry::default();
     };
-    let at = &state[place(i)..place(i + 1)];
+    let at = &state[HEAD_WORDS + PLACE_WORDS * i..];
     let job = Job {
-        release: at[JOB_AT + 1],
-        left: at[JOB_AT + 2],
+        release: at[5],
+        left: at[6],
     };
     Entry {
         record: record(at),
-        job: (at[JOB_AT] != 0).then_some(job),
-        last_release: (at[LAST_AT] != 0).then_some(at[LAST_AT + 1]),
+        job: (at[4] != 0).then_some(job),
+        last_release: (at[7] != 0).then_some(at[8]),
     }
 }
 
@@ -221,9 +209,9 @@ pub fn put_record(table: &mut [u8], k: usize, record: Record) -> bool {
 
 fn record(at: &[u32]) -> Record {
     Record {
-        label: at[LABEL_AT],
-        work: at[WORK_AT],
-        period: at[PERIOD_AT],
+        label: at[0],
+        work: at[1],
+        period: at[2],
     }
 }
 
