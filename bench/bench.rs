@@ -11,11 +11,11 @@
 mod code;
 #[path = "../compare/model.rs"]
 mod model;
-#[path = "../compare/node.rs"]
+#[path = "../include/node.rs"]
 mod node;
 
 use model::{table, State, Tally, Tick, Verdict, STATE_WORDS, TALLY_WORDS, VERDICT_WORDS};
-use node::{node_admit, node_energy, node_release, node_start, node_step};
+use node::{State as StateWords, Tally as TallyWords, Verdict as VerdictWords};
 use std::hint::black_box;
 use std::process::exit;
 use std::rc::Rc;
@@ -35,51 +35,20 @@ const COPIES: usize = 48;
 // ---- Our side ----
 
 extern "C" {
-    fn steps_on(
-        state: *mut u32,
-        words: usize,
-        tally: *mut u32,
-        tally_words: usize,
-        count: u32,
-    ) -> u64;
-    fn steps_by_value(table: *const u8, bytes: usize, count: u32) -> u64;
+    fn steps_on(state: *mut u32, words: u64, tally: *mut u32, tally_words: u64, count: u32) -> u64;
+    fn steps_by_value(table: *const u8, bytes: u64, count: u32) -> u64;
 }
 
-type StateWords = [u32; STATE_WORDS];
-type TallyWords = [u32; TALLY_WORDS];
-type VerdictWords = [u32; VERDICT_WORDS];
-
-// Each pointer goes with the length of its own buffer, so all these calls are sound.
-
-fn our_admit(table: &[u8], verdict: &mut VerdictWords) -> u64 {
-    let (table, bytes) = (table.as_ptr(), table.len());
-    unsafe { node_admit(table, bytes, verdict.as_mut_ptr(), VERDICT_WORDS) }
-}
-
-fn our_start(table: &[u8], state: &mut StateWords) -> u64 {
-    unsafe { node_start(table.as_ptr(), table.len(), state.as_mut_ptr(), STATE_WORDS) }
-}
-
-fn our_release(state: &mut StateWords, task: u32, demand: u32) -> u64 {
-    unsafe { node_release(state.as_mut_ptr(), STATE_WORDS, task, demand) }
-}
-
-fn our_step(state: &mut StateWords, tally: &mut TallyWords) -> u64 {
-    let (state, tally) = (state.as_mut_ptr(), tally.as_mut_ptr());
-    unsafe { node_step(state, STATE_WORDS, tally, TALLY_WORDS) }
-}
-
-fn our_energy(tally: &TallyWords, run_power: u32, sleep_power: u32) -> u64 {
-    unsafe { node_energy(tally.as_ptr(), TALLY_WORDS, run_power, sleep_power) }
-}
+// Each pointer goes with the length of its own buffer, so these calls are sound.
 
 fn our_steps(state: &mut StateWords, tally: &mut TallyWords, count: u32) -> u64 {
+    let (words, tally_words) = (state.len() as u64, tally.len() as u64);
     let (state, tally) = (state.as_mut_ptr(), tally.as_mut_ptr());
-    unsafe { steps_on(state, STATE_WORDS, tally, TALLY_WORDS, count) }
+    unsafe { steps_on(state, words, tally, tally_words, count) }
 }
 
 fn our_steps_by_value(table: &[u8], count: u32) -> u64 {
-    unsafe { steps_by_value(table.as_ptr(), table.len(), count) }
+    unsafe { steps_by_value(table.as_ptr(), table.len() as u64, count) }
 }
 
 // ---- The model, called as ours is ----
@@ -236,13 +205,13 @@ impl Both {
             state: model::start(table).unwrap(),
             tally: Tally::default(),
         };
-        assert_eq!(our_start(table, &mut both.words), 0, "start");
+        assert_eq!(node::start(table, &mut both.words).0, 0, "start");
         both.agree();
         both
     }
 
     fn release(&mut self, task: u32, demand: u32) -> u64 {
-        let answer = our_release(&mut self.words, task, demand);
+        let answer = node::release(&mut self.words, task, demand).0;
         let rust = told(self.state.release(task, demand), |()| 0);
         assert_eq!(answer, rust, "release");
         self.agree();
@@ -250,7 +219,7 @@ impl Both {
     }
 
     fn step(&mut self) -> u64 {
-        let answer = our_step(&mut self.words, &mut self.tally_words);
+        let answer = node::step(&mut self.words, &mut self.tally_words).0;
         let rust = told_tick(self.state.step(&mut self.tally));
         assert_eq!(answer, rust, "step");
         self.agree();
@@ -452,7 +421,7 @@ fn admission(what: impl Into<String>, tables: Vec<Vec<u8>>, turns: u32) -> Row {
     let mut left = blank;
     for table in &tables {
         let (mut ours, mut rust) = (blank, blank);
-        let answer = our_admit(table, &mut ours);
+        let answer = node::admit(table, &mut ours).0;
         assert_eq!(answer, model::admit_words(table, &mut rust), "admission");
         assert_eq!(ours, rust, "the verdicts differ");
         left = ours;
@@ -466,7 +435,7 @@ fn admission(what: impl Into<String>, tables: Vec<Vec<u8>>, turns: u32) -> Row {
     let ours = Way::new(calls, [blank, left], move |verdict| {
         for _ in 0..turns {
             for table in tables.iter() {
-                used(our_admit(black_box(table), hidden(verdict)));
+                used(node::admit(black_box(table), hidden(verdict)));
             }
         }
     });
@@ -515,7 +484,7 @@ fn accepted_release(n: u32) -> Row {
     let ours = Way::new(calls, words.clone(), move |states| {
         for state in states {
             for task in 1..=n {
-                used(our_release(hidden(state), task, black_box(1)));
+                used(node::release(hidden(state), task, black_box(1)));
             }
         }
     });
@@ -541,14 +510,14 @@ fn accepted_release(n: u32) -> Row {
 fn refused_release(n: u32) -> Row {
     let mut at = around_release(n).to;
     for task in 1..=n {
-        assert_eq!(at.release(task, 1), 11);
+        assert_eq!(at.release(task, 1), u64::from(node::REFUSED_WORKING));
     }
     let turns = 9600 / n;
     let calls = turns * n;
     let ours = Way::new(calls, [at.words; 2], move |state| {
         for _ in 0..turns {
             for task in 1..=n {
-                used(our_release(hidden(state), task, black_box(1)));
+                used(node::release(hidden(state), task, black_box(1)));
             }
         }
     });
@@ -575,7 +544,7 @@ fn step(kind: Kind, n: u32) -> Row {
     let (ends, _) = kind.stretch(n);
     let ours = Way::new(STRETCH, ends.on_words(), |(state, tally)| {
         for _ in 0..STRETCH {
-            used(our_step(hidden(state), hidden(tally)));
+            used(node::step(hidden(state), hidden(tally)));
         }
     });
     let rust = Way::new(STRETCH, ends.in_structs(), |(state, tally)| {
@@ -645,8 +614,8 @@ fn mixed() -> Row {
     let ours = Way::new(STRETCH, ends.on_words(), move |(state, tally)| {
         for &call in calls.iter() {
             match call {
-                (0, _) => used(our_step(hidden(state), hidden(tally))),
-                (task, demand) => used(our_release(hidden(state), task, demand)),
+                (0, _) => used(node::step(hidden(state), hidden(tally))),
+                (task, demand) => used(node::release(hidden(state), task, demand)),
             }
         }
     });
@@ -682,7 +651,7 @@ fn energy() -> Row {
         let tally = Tally { run, slot, tail };
         let (run_power, sleep_power) = (i * 15_013, i * 16);
         let nanojoules = model::energy(&tally, run_power, sleep_power).expect("accepted");
-        let answer = our_energy(&tally.to_words(), run_power, sleep_power);
+        let answer = node::energy(&tally.to_words(), run_power, sleep_power).0;
         assert_eq!(answer, nanojoules << 8, "energy");
         structs.push((tally, run_power, sleep_power));
         words.push((tally.to_words(), run_power, sleep_power));
@@ -692,7 +661,7 @@ fn energy() -> Row {
     let ours = Way::new(calls, words.clone(), |readings| {
         for _ in 0..TURNS {
             for (tally, run_power, sleep_power) in readings.iter() {
-                used(our_energy(black_box(tally), *run_power, *sleep_power));
+                used(node::energy(black_box(tally), *run_power, *sleep_power));
             }
         }
     });

@@ -4,6 +4,7 @@
 //! buffer must agree. The inputs follow from the seed alone; the time says how many are tried.
 
 mod model;
+#[path = "../include/node.rs"]
 mod node;
 
 use model::{word, STATE_WORDS, TALLY_WORDS, VERDICT_WORDS};
@@ -216,6 +217,11 @@ impl<T: Copy + Debug + Default + From<u8> + PartialEq> Room<T> {
     }
 }
 
+/// As the archive takes it.
+fn length<T>(buffer: &[T]) -> u64 {
+    buffer.len() as u64
+}
+
 /// The buffers of a call: a table, and one or two of words; what it is not lent is empty.
 struct Lent<'a>(&'a [u8], [&'a [u32]; 2]);
 
@@ -250,7 +256,7 @@ impl Both {
 
     fn admit(&mut self, table: &[u8], verdict: &mut [u32]) {
         let (t, [v, _]) = self.lend(Call::Admit, Lent(table, [verdict, &[]]), [0, 0]);
-        let archive = unsafe { node_admit(t, table.len(), v, verdict.len()) };
+        let archive = unsafe { node_admit(t, length(table), v, length(verdict)) };
         let model = model::admit_words(table, verdict);
         self.judge(Lent(table, [verdict, &[]]), archive, model);
         let (kind, rounds) = match model & 0xff {
@@ -265,21 +271,21 @@ impl Both {
 
     fn start(&mut self, table: &[u8], state: &mut [u32]) {
         let (t, [s, _]) = self.lend(Call::Start, Lent(table, [state, &[]]), [0, 0]);
-        let archive = unsafe { node_start(t, table.len(), s, state.len()) };
+        let archive = unsafe { node_start(t, length(table), s, length(state)) };
         let model = model::start_words(table, state);
         self.judge(Lent(table, [state, &[]]), archive, model);
     }
 
     fn release(&mut self, state: &mut [u32], task: u32, demand: u32) {
         let (_, [s, _]) = self.lend(Call::Release, Lent(&[], [state, &[]]), [task, demand]);
-        let archive = unsafe { node_release(s, state.len(), task, demand) };
+        let archive = unsafe { node_release(s, length(state), task, demand) };
         let model = model::release_words(state, task, demand);
         self.judge(Lent(&[], [state, &[]]), archive, model);
     }
 
     fn step(&mut self, state: &mut [u32], tally: &mut [u32]) {
         let (_, [s, y]) = self.lend(Call::Step, Lent(&[], [state, tally]), [0, 0]);
-        let archive = unsafe { node_step(s, state.len(), y, tally.len()) };
+        let archive = unsafe { node_step(s, length(state), y, length(tally)) };
         let model = model::step_words(state, tally);
         self.judge(Lent(&[], [state, tally]), archive, model);
         match (model & 0xff, model >> 8 & 0xff, model >> 16) {
@@ -292,7 +298,7 @@ impl Both {
     fn energy(&mut self, tally: &[u32], run_power: u32, sleep_power: u32) {
         let lent = Lent(&[], [tally, &[]]);
         let (_, [y, _]) = self.lend(Call::Energy, lent, [run_power, sleep_power]);
-        let archive = unsafe { node_energy(y, tally.len(), run_power, sleep_power) };
+        let archive = unsafe { node_energy(y, length(tally), run_power, sleep_power) };
         let model = model::energy_words(tally, run_power, sleep_power);
         self.judge(Lent(&[], [tally, &[]]), archive, model);
     }

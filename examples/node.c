@@ -9,14 +9,8 @@
 
 enum { TASKS = 4, TICKS = 40, STOP_AFTER = 25, RUN_POWER = 23000, SLEEP_POWER = 16 };
 
-enum { TOO_SOON = 12 }; /* the refusal that is shown at the end */
-
-struct record {
-    uint32_t label, work, period;
-};
-
 /* The sleep record, then the tasks: label, work, period. */
-static const struct record house[1 + TASKS] = {
+static const struct node_record house[1 + TASKS] = {
     {10, 8, 20}, {11, 2, 20}, {12, 3, 50}, {13, 2, 100}, {14, 4, 200},
 };
 
@@ -31,17 +25,10 @@ struct memory {
 };
 static struct memory memory;
 
-/* A number of a table, low byte first on every machine. */
-static void set_number(uint8_t *table, size_t index, uint32_t value)
-{
-    for (size_t i = 0; i < 4; i++)
-        table[4 * index + i] = (uint8_t)(value >> 8 * i);
-}
-
 /* Gives an accepted answer back. Firmware would log the number and go to a safe state. */
 static uint64_t check(uint64_t answer)
 {
-    if (node_number(answer) != 0) {
+    if (node_number(answer) != NODE_ACCEPTED) {
         fprintf(stderr, "refused %" PRIu32 "\n", node_number(answer));
         exit(1);
     }
@@ -61,20 +48,19 @@ static void (*const work[TASKS])(void) = {read_sensor, compute, move_valve, talk
 /* Start is allowed on a set that is not admitted, so the test comes first. */
 static void start(void)
 {
-    uint8_t table[sizeof house / sizeof house[0] * NODE_RECORD_BYTES] = {0};
+    uint8_t table[(1 + TASKS) * NODE_RECORD_BYTES];
     uint32_t verdict[NODE_VERDICT_WORDS];
 
-    for (size_t i = 0; i < 1 + TASKS; i++) {
-        set_number(table, 4 * i, house[i].label);
-        set_number(table, 4 * i + 1, house[i].work);
-        set_number(table, 4 * i + 2, house[i].period);
-    }
+    for (uint32_t k = 0; k < 1 + TASKS; k++)
+        node_put_record(table, sizeof table, k, house[k]);
     uint32_t tasks =
         node_place(check(node_admit(table, sizeof table, verdict, NODE_VERDICT_WORDS)));
     printf("task window figure rounds\n");
-    for (uint32_t i = 0; i < tasks; i++)
-        printf("%" PRIu32 " %" PRIu32 " %" PRIu32 " %" PRIu32 "\n", i + 1, verdict[i],
-               verdict[NODE_PLACES + i], verdict[2 * NODE_PLACES + i]);
+    for (uint32_t task = 1; task <= tasks; task++) {
+        struct node_row row = node_row_in(verdict, task);
+        printf("%" PRIu32 " %" PRIu32 " %" PRIu32 " %" PRIu32 "\n", task, row.window, row.figure,
+               row.rounds);
+    }
     printf("admitted %" PRIu32 "\n", tasks);
 
     check(node_start(table, sizeof table, memory.state, NODE_STATE_WORDS));
@@ -84,10 +70,10 @@ static void start(void)
 /* One tick of the node, and its character in the picture. */
 static char tick(uint32_t clock)
 {
-    for (uint32_t i = 0; i < TASKS; i++) {
-        const struct record *task = &house[1 + i];
-        if (clock >= first_release[i] && (clock - first_release[i]) % task->period == 0)
-            check(node_release(memory.state, NODE_STATE_WORDS, i + 1, task->work));
+    for (uint32_t task = 1; task <= TASKS; task++) {
+        uint32_t first = first_release[task - 1];
+        if (clock >= first && (clock - first) % house[task].period == 0)
+            check(node_release(memory.state, NODE_STATE_WORDS, task, house[task].work));
     }
     uint64_t answer =
         check(node_step(memory.state, NODE_STATE_WORDS, memory.tally, NODE_TALLY_WORDS));
@@ -119,24 +105,25 @@ int main(void)
 
     start();
     /* The clock is read from the state, so that after a stop the loop goes on where it was. */
-    while ((clock = memory.state[NODE_CLOCK]) < TICKS) {
+    while ((clock = node_clock_in(memory.state)) < TICKS) {
         picture[clock] = tick(clock);
         if (clock == STOP_AFTER)
             stop();
     }
     printf("ticks 0 to %d, z slot, . tail, a digit the task that ran:\n", TICKS - 1);
     printf("%s\n", picture);
-    printf("run %" PRIu32 ", slot %" PRIu32 ", tail %" PRIu32 "\n", memory.tally[0],
-           memory.tally[1], memory.tally[2]);
+    struct node_tally counts = node_tally_in(memory.tally);
+    printf("run %" PRIu32 ", slot %" PRIu32 ", tail %" PRIu32 "\n", counts.run, counts.slot,
+           counts.tail);
     uint64_t energy = check(node_energy(memory.tally, NODE_TALLY_WORDS, RUN_POWER, SLEEP_POWER));
-    printf("%" PRIu64 " nanojoules at %d and %d microwatts\n", node_nanojoules(energy), RUN_POWER,
-           SLEEP_POWER);
+    printf("%llu nanojoules at %d and %d microwatts\n",
+           (unsigned long long)node_nanojoules(energy), RUN_POWER, SLEEP_POWER);
 
     struct memory before = memory;
     uint32_t refusal =
         node_number(node_release(memory.state, NODE_STATE_WORDS, 2, house[2].work));
     printf("task 2 released again at tick %" PRIu32 ": refused %" PRIu32 "%s\n", clock, refusal,
-           refusal == TOO_SOON ? ", its last release is fewer than its period ago" : "");
+           refusal == NODE_REFUSED_EARLY ? ", its last release is fewer than its period ago" : "");
     printf("the state's words: %s\n",
            memcmp(before.state, memory.state, sizeof memory.state) == 0 ? "unchanged" : "changed");
     return 0;

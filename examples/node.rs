@@ -1,103 +1,17 @@
 //! node.rs: the loop of a node on the house table, over libnode.a. Built and run by examples/run.
 //! node.c is the same in C, and both print expected.txt.
 
-use node::{Answer, Tick, CLOCK, PLACES, RECORD_BYTES, STATE_WORDS, TALLY_WORDS, VERDICT_WORDS};
+#[path = "../include/node.rs"]
+mod node;
+
+use node::{Answer, Record, Tick};
 use std::process::exit;
-
-/// The calls of include/node.h. Arrays fix the buffers' lengths.
-mod node {
-    pub const PLACES: usize = 16;
-    pub const RECORD_BYTES: usize = 16;
-    pub const STATE_WORDS: usize = 150;
-    pub const TALLY_WORDS: usize = 3;
-    pub const VERDICT_WORDS: usize = 48;
-    /// The word of a state that holds its clock.
-    pub const CLOCK: usize = 5;
-
-    extern "C" {
-        fn node_admit(table: *const u8, bytes: usize, verdict: *mut u32, words: usize) -> u64;
-        fn node_start(table: *const u8, bytes: usize, state: *mut u32, words: usize) -> u64;
-        fn node_release(state: *mut u32, words: usize, task: u32, demand: u32) -> u64;
-        fn node_step(state: *mut u32, words: usize, tally: *mut u32, tally_words: usize) -> u64;
-        fn node_energy(tally: *const u32, words: usize, run_power: u32, sleep_power: u32) -> u64;
-    }
-
-    #[derive(Clone, Copy)]
-    pub struct Answer(u64);
-
-    pub enum Tick {
-        Run(u32),
-        Slot,
-        Tail,
-    }
-
-    impl Answer {
-        /// 0 where the call was accepted, else the refusal's number.
-        pub fn number(self) -> u32 {
-            (self.0 & 0xff) as u32
-        }
-
-        /// Of an admission.
-        pub fn place(self) -> u32 {
-            (self.0 >> 8 & 0xff) as u32
-        }
-
-        /// Of an accepted step.
-        pub fn tick(self) -> Tick {
-            match self.0 >> 8 & 0xff {
-                0 => Tick::Run((self.0 >> 16) as u32),
-                1 => Tick::Slot,
-                _ => Tick::Tail,
-            }
-        }
-
-        /// Of an energy reading.
-        pub fn nanojoules(self) -> u64 {
-            self.0 >> 8
-        }
-    }
-
-    // SAFETY, of each call: a pointer goes with the length of what it was taken from, and what is
-    // borrowed by &mut overlaps nothing.
-
-    pub fn admit(table: &[u8], verdict: &mut [u32; VERDICT_WORDS]) -> Answer {
-        let to = verdict.as_mut_ptr();
-        Answer(unsafe { node_admit(table.as_ptr(), table.len(), to, VERDICT_WORDS) })
-    }
-
-    pub fn start(table: &[u8], state: &mut [u32; STATE_WORDS]) -> Answer {
-        let to = state.as_mut_ptr();
-        Answer(unsafe { node_start(table.as_ptr(), table.len(), to, STATE_WORDS) })
-    }
-
-    pub fn release(state: &mut [u32; STATE_WORDS], task: u32, demand: u32) -> Answer {
-        Answer(unsafe { node_release(state.as_mut_ptr(), STATE_WORDS, task, demand) })
-    }
-
-    pub fn step(state: &mut [u32; STATE_WORDS], tally: &mut [u32; TALLY_WORDS]) -> Answer {
-        let to = tally.as_mut_ptr();
-        Answer(unsafe { node_step(state.as_mut_ptr(), STATE_WORDS, to, TALLY_WORDS) })
-    }
-
-    pub fn energy(tally: &[u32; TALLY_WORDS], run_power: u32, sleep_power: u32) -> Answer {
-        Answer(unsafe { node_energy(tally.as_ptr(), TALLY_WORDS, run_power, sleep_power) })
-    }
-}
 
 const TASKS: usize = 4;
 const TICKS: u32 = 40;
 const STOP_AFTER: u32 = 25;
 const RUN_POWER: u32 = 23_000;
 const SLEEP_POWER: u32 = 16;
-
-/// The refusal that is shown at the end.
-const TOO_SOON: u32 = 12;
-
-struct Record {
-    label: u32,
-    work: u32,
-    period: u32,
-}
 
 const fn record(label: u32, work: u32, period: u32) -> Record {
     Record {
@@ -123,15 +37,20 @@ const FIRST_RELEASE: [u32; TASKS] = [20, 1, 1, 1];
 /// noinit or backup RAM section.
 #[derive(Clone)]
 struct Memory {
-    state: [u32; STATE_WORDS],
-    tally: [u32; TALLY_WORDS],
+    state: node::State,
+    tally: node::Tally,
 }
 
-/// Gives an accepted answer back. Firmware would log the number and go to a safe state.
+/// Firmware would log the number and go to a safe state.
+fn refused(answer: Answer) -> ! {
+    eprintln!("refused {}", answer.number());
+    exit(1)
+}
+
+/// Gives an accepted answer back.
 fn check(answer: Answer) -> Answer {
-    if answer.number() != 0 {
-        eprintln!("refused {}", answer.number());
-        exit(1);
+    if answer.number() != node::ACCEPTED {
+        refused(answer);
     }
     answer
 }
@@ -148,23 +67,21 @@ fn talk() {}
 
 /// Start is allowed on a set that is not admitted, so the test comes first.
 fn start() -> Memory {
-    let mut table = [0; (1 + TASKS) * RECORD_BYTES];
-    let mut verdict = [0; VERDICT_WORDS];
+    let mut table = [0; (1 + TASKS) * node::RECORD_BYTES];
+    let mut verdict = [0; node::VERDICT_WORDS];
     let mut memory = Memory {
-        state: [0; STATE_WORDS],
-        tally: [0; TALLY_WORDS],
+        state: [0; node::STATE_WORDS],
+        tally: [0; node::TALLY_WORDS],
     };
 
-    for (to, from) in table.chunks_exact_mut(RECORD_BYTES).zip(&HOUSE) {
-        to[0..4].copy_from_slice(&from.label.to_le_bytes());
-        to[4..8].copy_from_slice(&from.work.to_le_bytes());
-        to[8..12].copy_from_slice(&from.period.to_le_bytes());
+    for (k, record) in HOUSE.into_iter().enumerate() {
+        node::put_record(&mut table, k, record);
     }
     let tasks = check(node::admit(&table, &mut verdict)).place();
     println!("task window figure rounds");
-    for i in 0..tasks as usize {
-        let [window, figure, rounds] = [i, PLACES + i, 2 * PLACES + i].map(|at| verdict[at]);
-        println!("{} {window} {figure} {rounds}", i + 1);
+    for task in 1..=tasks {
+        let row = node::row(&verdict, task);
+        println!("{task} {} {} {}", row.window, row.figure, row.rounds);
     }
     println!("admitted {tasks}");
 
@@ -180,7 +97,7 @@ fn tick(memory: &mut Memory, clock: u32) -> char {
             check(node::release(&mut memory.state, i as u32, task.work));
         }
     }
-    let answer = check(node::step(&mut memory.state, &mut memory.tally));
+    let answer = node::step(&mut memory.state, &mut memory.tally);
     match answer.tick() {
         Tick::Run(task) => {
             WORK[task as usize - 1]();
@@ -194,6 +111,7 @@ fn tick(memory: &mut Memory, clock: u32) -> char {
             node_sleep_one_tick();
             '.'
         }
+        Tick::Refused => refused(answer),
     }
 }
 
@@ -213,13 +131,13 @@ fn main() {
     let mut memory = start();
 
     // The clock is read from the state, so that after a stop the loop goes on where it was.
-    let mut clock = memory.state[CLOCK];
+    let mut clock = node::clock(&memory.state);
     while clock < TICKS {
         picture.push(tick(&mut memory, clock));
         if clock == STOP_AFTER {
             stop(&mut memory);
         }
-        clock = memory.state[CLOCK];
+        clock = node::clock(&memory.state);
     }
     println!(
         "ticks 0 to {}, z slot, . tail, a digit the task that ran:",
@@ -233,7 +151,7 @@ fn main() {
 
     let before = memory.state;
     let refusal = node::release(&mut memory.state, 2, HOUSE[2].work).number();
-    let words = if refusal == TOO_SOON {
+    let words = if refusal == node::REFUSED_EARLY {
         ", its last release is fewer than its period ago"
     } else {
         ""
