@@ -33,7 +33,6 @@
 #ifndef LUNDZARGEL_NODE_H
 #define LUNDZARGEL_NODE_H
 
-#include <stddef.h>
 #include <stdint.h>
 
 #ifdef __cplusplus
@@ -72,30 +71,31 @@ enum { NODE_RUN = 0, NODE_SLOT = 1, NODE_TAIL = 2 };
  * Verdict: by task from place 0 on, the windows, then the figures, then the rounds.
  */
 
-/* Of the lengths below table_len counts bytes, the others count words and so are no sizeof. */
+/* Of the lengths below table_len counts bytes, the others count words and so are no sizeof. All are
+ * 64 bits wide on every machine. */
 
 /* The admission test. Admitted: place is the number of tasks. Refusals 1 to 5: place is the record
  * (1 to 4) or the task (5), rounds what was spent on that task. The verdict is written where the
  * test was made, that is, where the set is admitted or gets 5, with zeros from the failing task on;
  * under 1 to 4 it is unchanged. A verdict of another length is not written: an admitted set then
  * gets 6, one that gets 1 to 5 keeps that number. */
-uint64_t node_admit(const uint8_t *table, size_t table_len,
-                    uint32_t *verdict, size_t verdict_len);
+uint64_t node_admit(const uint8_t *table, uint64_t table_len,
+                    uint32_t *verdict, uint64_t verdict_len);
 
 /* A fresh state of a table. Refusals 1 to 4, place the record, and 6: the buffer then holds what it
  * held, perhaps an older state, so look at the answer. A set that gets 5 may be started. */
-uint64_t node_start(const uint8_t *table, size_t table_len,
-                    uint32_t *state, size_t state_len);
+uint64_t node_start(const uint8_t *table, uint64_t table_len,
+                    uint32_t *state, uint64_t state_len);
 
 /* A release of a task, from 1, at the state's clock. Refusals 6 to 12. */
-uint64_t node_release(uint32_t *state, size_t state_len, uint32_t task, uint32_t demand);
+uint64_t node_release(uint32_t *state, uint64_t state_len, uint32_t task, uint32_t demand);
 
 /* One tick: kind is NODE_RUN, NODE_SLOT or NODE_TAIL, task the one that ran, from 1. The state goes
  * one tick on and the tally's count up by one. Refusals 6 and 7. */
-uint64_t node_step(uint32_t *state, size_t state_len, uint32_t *tally, size_t tally_len);
+uint64_t node_step(uint32_t *state, uint64_t state_len, uint32_t *tally, uint64_t tally_len);
 
 /* The energy of a tally in nanojoules, powers in microwatts. Refusals 6 and 13, with energy 0. */
-uint64_t node_energy(const uint32_t *tally, size_t tally_len,
+uint64_t node_energy(const uint32_t *tally, uint64_t tally_len,
                      uint32_t run_power, uint32_t sleep_power);
 
 /* The parts of an answer. */
