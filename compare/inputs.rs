@@ -2,6 +2,8 @@
 //! Who makes the calls is another's matter: a program that takes this module is `Calls`, and has
 //! `mod model` beside it.
 
+#![allow(dead_code)] // not every program that takes this module uses all of it
+
 use crate::model::{self, word, STATE_WORDS, TALLY_WORDS, VERDICT_WORDS};
 use std::array::from_fn;
 
@@ -85,7 +87,7 @@ impl Random {
         from[self.index(from.len())]
     }
 
-    fn chance(&mut self, percent: u32) -> bool {
+    pub fn chance(&mut self, percent: u32) -> bool {
         self.below(100) < percent
     }
 

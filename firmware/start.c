@@ -41,11 +41,11 @@ static void prepare(void)
 extern uint32_t stack_end[];
 extern void initialise_monitor_handles(void);
 
-/* The table of an ARM processor: its stack, the entry, then the exceptions up to the faults. */
-__attribute__((section(".start"), used)) static void *const vectors[] = {
-    stack_end, (void *)begin, (void *)fault, (void *)fault, (void *)fault, (void *)fault,
-    (void *)fault,
-};
+/* An ARM processor's table: its stack, the entry, then the exceptions up to the faults. */
+__attribute__((section(".start"), used)) static const struct {
+    uint32_t *stack;
+    void (*entries[6])(void);
+} vectors = {stack_end, {begin, fault, fault, fault, fault, fault}};
 
 static void prepare(void)
 {
