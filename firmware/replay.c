@@ -8,9 +8,10 @@
 #include <stdlib.h>
 #include <string.h>
 
-/* The buffers of words lie in one room, those of bytes in another. Around them lies a guard, and all
- * of a room is compared, so that a write beside a buffer is seen. */
-enum { GUARD = 8, SHIFTS = 4, BYTES = 640 + 2 * GUARD + SHIFTS, WORDS = 700 + 3 * GUARD + SHIFTS };
+/* The table lies in a room of bytes, the other buffers in one of words. Around them lies a guard,
+ * and all of a room is compared, so that a write beside a buffer is seen. */
+enum { MOST_BYTES = 640, MOST_WORDS = 700, GUARD = 8, SHIFTS = 4 };
+enum { BYTES = MOST_BYTES + 2 * GUARD + SHIFTS, WORDS = MOST_WORDS + 3 * GUARD + SHIFTS };
 
 struct rooms {
     uint32_t words[WORDS];
@@ -77,8 +78,8 @@ static int agrees(uint32_t turn)
 {
     struct call call;
     read_into(&call, sizeof call);
-    if (call.kind > 4 || call.table_len > 640 || call.first_len > 700 ||
-        call.second_len > 700 - call.first_len) {
+    if (call.kind > 4 || call.table_len > MOST_BYTES || call.first_len > MOST_WORDS ||
+        call.second_len > MOST_WORDS - call.first_len) {
         printf("call %" PRIu32 " of the file is none\n", turn);
         exit(2);
     }
@@ -109,8 +110,8 @@ static int agrees(uint32_t turn)
     print_answer("the model", wanted);
     for (uint32_t i = 0; i < WORDS; i++)
         if (lent.words[i] != expected.words[i])
-            printf("word %" PRIu32 " of the %s buffer is %" PRIu32 ", the model's %" PRIu32 "\n",
-                   i - (i < second ? first : second), i < second ? "first" : "second",
+            printf("word %" PRId32 " of the %s buffer is %" PRIu32 ", the model's %" PRIu32 "\n",
+                   (int32_t)(i - (i < second ? first : second)), i < second ? "first" : "second",
                    lent.words[i], expected.words[i]);
     if (memcmp(lent.bytes, expected.bytes, BYTES) != 0)
         printf("the table or what lies beside it was written\n");
