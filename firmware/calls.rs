@@ -1,5 +1,5 @@
-//! calls SEED FILE: writes random calls of `compare/inputs.rs` with the answers and buffers that the
-//! model gives, for replay.c to make on another processor. As many of every answer are kept.
+//! calls SEED FILE: writes random calls of `compare/inputs.rs` with the answers and buffers that
+//! the model gives, for replay.c to make on another processor. As many of every answer are kept.
 //!
 //! The file is 32-bit words, low byte first: the number of calls, then by call its number, the
 //! lengths of its table in bytes and of its two buffers in words, and its two numbers; the table,

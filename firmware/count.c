@@ -1,7 +1,7 @@
 /* count.c: what the calls cost on this processor, for sets of 1, 4 and 16 tasks. A line has the
- * number of tasks and the rounds of the admission; instructions of admit, start, release, step (run,
- * slot, tail) and energy; then the bytes of stack of the same seven. Each figure is the most that an
- * accepted call took in TICKS ticks, the caller's own instructions and stack to make it included. */
+ * number of tasks and the rounds of the admission; instructions of admit, start, release, step
+ * (run, slot, tail) and energy; then the bytes of stack of the same seven. Each figure is the most
+ * that an accepted call took in TICKS ticks, with what its caller does to make it. */
 #include "node.h"
 
 #include <inttypes.h>
@@ -11,7 +11,8 @@
 
 enum { TICKS = 400, REPEATS = 100, SLEEP = 8, HARMONIZING = 20, WORK = 2 };
 
-static uint8_t table[NODE_TABLE_BYTES];
+/* Label, work, period and a 0. These processors have a word's low byte first, as a table has. */
+static uint32_t records[1 + NODE_PLACES][4];
 static uint32_t table_len, verdict[NODE_VERDICT_WORDS], task;
 static struct {
     uint32_t state[NODE_STATE_WORDS], tally[NODE_TALLY_WORDS];
@@ -97,12 +98,12 @@ static void nothing(void) {}
 
 static void admit(void)
 {
-    answer = node_admit(table, table_len, verdict, NODE_VERDICT_WORDS);
+    answer = node_admit((const uint8_t *)records, table_len, verdict, NODE_VERDICT_WORDS);
 }
 
 static void start(void)
 {
-    answer = node_start(table, table_len, node.state, NODE_STATE_WORDS);
+    answer = node_start((const uint8_t *)records, table_len, node.state, NODE_STATE_WORDS);
 }
 
 static void release(void)
@@ -190,24 +191,17 @@ static void measure_ticks(uint32_t tasks)
     }
 }
 
-static void set_number(uint32_t index, uint32_t value)
-{
-    for (uint32_t i = 0; i < 4; i++)
-        table[4 * index + i] = (uint8_t)(value >> 8 * i);
-}
-
 static void run(uint32_t tasks)
 {
     uint32_t rounds = 0;
 
     table_len = (1 + tasks) * NODE_RECORD_BYTES;
-    memset(table, 0, sizeof table);
     memset(&node, 0, sizeof node);
     memset(most, 0, sizeof most);
     memset(deepest, 0, sizeof deepest);
     for (uint32_t i = 0; i <= tasks; i++) {
-        set_number(4 * i + 1, i == 0 ? SLEEP : WORK);
-        set_number(4 * i + 2, i == 0 ? HARMONIZING : i * HARMONIZING);
+        records[i][1] = i == 0 ? SLEEP : WORK;
+        records[i][2] = i == 0 ? HARMONIZING : i * HARMONIZING;
     }
     saved = node;
     bare = repeated(nothing);

@@ -1,5 +1,5 @@
-/* start.c: from reset to main on the emulated processors, and out again by semihosting. A fault ends
- * the program with status 3. node.ld lays it out. */
+/* start.c: from reset to main on the emulated processors, and out again by semihosting. A fault
+ * ends the program with status 3. node.ld lays it out. */
 #include <stdint.h>
 #include <stdlib.h>
 
