@@ -43,7 +43,7 @@ pub const ABOUT: [About; 5] = [
             refusals: &[6, 13] },
 ];
 
-/// Makes the calls. It leaves in the buffers what the model leaves there, so that a history goes on.
+/// Makes the calls. It leaves in the buffers what the model leaves, so that a history goes on.
 pub trait Calls {
     fn admit(&mut self, table: &[u8], verdict: &mut [u32]);
     fn start(&mut self, table: &[u8], state: &mut [u32]);

@@ -15,7 +15,7 @@ use inputs::{round, Call, Calls, Random, ABOUT};
 use std::process::exit;
 
 /// How many calls are kept of every answer that a call can give.
-const OF_EACH: usize = 150;
+const OF_EACH: usize = 700;
 /// Buffers that a node of 16 KB can lend twice over: bytes of a table, words of all others.
 const MOST_BYTES: usize = 640;
 const MOST_WORDS: usize = 700;
@@ -158,7 +158,7 @@ fn main() {
     };
     let mut rounds = 0;
     while let Some(missing) = writer.missing() {
-        if rounds == 20_000 {
+        if rounds == 200_000 {
             eprintln!("calls: too few of {missing} in {rounds} rounds");
             exit(1)
         }
