@@ -9,7 +9,8 @@
 #include <stdlib.h>
 #include <string.h>
 
-enum { TICKS = 400, REPEATS = 100, SLEEP = 8, HARMONIZING = 20, WORK = 2 };
+/* The ticks are LATE ones, since a large clock takes longest where division is software. */
+enum { LATE = 999999000, TICKS = 400, REPEATS = 100, SLEEP = 8, HARMONIZING = 20, WORK = 2 };
 
 /* Label, work, period and a 0. These processors have a word's low byte first, as a table has. */
 static uint32_t records[1 + NODE_PLACES][4];
@@ -174,7 +175,7 @@ static void measure(void (*call)(void), int kind)
         deepest[kind] = stack;
 }
 
-/* Task i asks for a release from tick 3 i on, as soon as it may have one. */
+/* Task i asks for a release from the tick 3 i on, as soon as it may have one. */
 static void measure_ticks(uint32_t tasks)
 {
     for (uint32_t tick = 0; tick < TICKS; tick++) {
@@ -207,6 +208,7 @@ static void run(uint32_t tasks)
     bare = repeated(nothing);
     measure(admit, ADMIT);
     measure(start, START);
+    node.state[NODE_CLOCK] = node.tally[NODE_TAIL] = LATE;
     measure_ticks(tasks);
     measure(energy, ENERGY);
 
