@@ -129,7 +129,6 @@ int main(void)
     printf("run %" PRIu32 ", slot %" PRIu32 ", tail %" PRIu32 "\n", memory.tally[0],
            memory.tally[1], memory.tally[2]);
     uint64_t energy = check(node_energy(memory.tally, NODE_TALLY_WORDS, RUN_POWER, SLEEP_POWER));
-    /* Not PRIu64, which newlib lacks. */
     printf("%llu nanojoules at %d and %d microwatts\n",
            (unsigned long long)node_nanojoules(energy), RUN_POWER, SLEEP_POWER);
 

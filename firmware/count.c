@@ -54,9 +54,9 @@ enum { COUNTDOWN_LENGTH = 2 };
 
 static void start_counter(void)
 {
-    SYST[1] = 0xffffff;
+    SYST[1] = 0xffffff; /* it begins here again */
     SYST[2] = 0;
-    SYST[0] = 5;
+    SYST[0] = 5; /* on, at the processor's clock, no interrupt */
 }
 
 static uint32_t counter(void)

@@ -71,8 +71,8 @@ enum { NODE_RUN = 0, NODE_SLOT = 1, NODE_TAIL = 2 };
  * Verdict: by task from place 0 on, the windows, then the figures, then the rounds.
  */
 
-/* Of the lengths below table_len counts bytes, the others count words and so are no sizeof. All are
- * 64 bits wide on every machine. */
+/* Lengths are 64 bits wide in the compiled calls on every processor, 32-bit ones included, so one
+ * header serves all. table_len counts bytes, the others count words and so are no sizeof. */
 
 /* The admission test. Admitted: place is the number of tasks. Refusals 1 to 5: place is the record
  * (1 to 4) or the task (5), rounds what was spent on that task. The verdict is written where the
