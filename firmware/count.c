@@ -208,7 +208,7 @@ static void run(uint32_t tasks)
     bare = repeated(nothing);
     measure(admit, ADMIT);
     measure(start, START);
-    node.state[NODE_CLOCK] = node.tally[NODE_TAIL] = LATE;
+    node.state[NODE_CLOCK_AT] = node.tally[NODE_TAIL] = LATE;
     measure_ticks(tasks);
     measure(energy, ENERGY);
 
