@@ -168,8 +168,8 @@ fn rounds(table: &[u8]) -> u32 {
 
 const HOUSE: [(u32, u32); 5] = [(8, 20), (2, 20), (3, 50), (2, 100), (4, 200)];
 
-/// The sets A to H of document 01.
-fn document_sets() -> Vec<Vec<u8>> {
+/// The sets A to H of RULES 15.
+fn case_sets() -> Vec<Vec<u8>> {
     let house = |last| [&HOUSE[..4], &[(last, 200)]].concat();
     let source = |s| vec![(s, 10), (1, 10), (1, 15), (2, 26)];
     let sets = [
@@ -839,7 +839,7 @@ const ABOUT_TIMES: &str = "
 Nanoseconds a call: the median of the repeats and in brackets their range, the three least and the
 three most left out. The ratio is ours over Rust, of the medians; in brackets the range of the
 repeats' own ratios, three and three left out. Rust is `compare/model.rs` on its own structs by
-`&mut`, every check of document 01 at each call. \"Rust on words\" is the model on our buffers: it
+`&mut`, every check of the rules at each call. \"Rust on words\" is the model on our buffers: it
 decodes, calls and encodes; for information.";
 
 const ABOUT_STACK: &str = "
@@ -878,7 +878,7 @@ fn main() {
     admissions.extend([2, 4, 8, 16].map(|n| admission_of(many_rounds(n), 32)));
     admissions.push(admission_of(halves(14), 8));
     admissions.push(admission("house table", vec![table(&HOUSE)], 256));
-    admissions.push(admission("sets A to H in turn", document_sets(), 32));
+    admissions.push(admission("sets A to H in turn", case_sets(), 32));
     let by_rounds = |n| [1, 16, 64, 256, 560].map(|last| admission_of(with_rounds(n, last), 32));
     let mut releases = Vec::from([1, 4, 16].map(accepted_release));
     releases.extend([1, 4, 16].map(refused_release));

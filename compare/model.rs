@@ -1,6 +1,6 @@
-//! Document 01 written a second time, from its text alone: plain Rust, no proofs, nothing shared
-//! with the proved crates. First the rules, then the layouts and calls of `include/node.h`,
-//! then document 01's own cases.
+//! The rules of docs/RULES.md written a second time, from the customer's own text of them: plain
+//! Rust, no proofs, nothing shared with the proved crates. First the rules, then the layouts and
+//! calls of `include/node.h`, then the cases of RULES 15.
 
 #![allow(dead_code)] // not every program that takes this module uses all of it
 
@@ -188,7 +188,7 @@ impl Entry {
 }
 
 impl State {
-    /// The rules under "State". H is seen to be at least 1 before anything is divided by it.
+    /// The rules of a state (RULES 4). H is seen to be at least 1 before anything is divided by it.
     fn lawful(&self) -> bool {
         let (n, h) = (self.n as usize, self.sleep.period);
         if n < 1 || n > PLACES || self.clock > CLOCK_END {
@@ -451,7 +451,7 @@ pub fn table(records: &[(u32, u32)]) -> Vec<u8> {
     words.flat_map(u32::to_le_bytes).collect()
 }
 
-/// Tries document 01's cases A to H and J on the model and panics where it differs from them.
+/// Tries the cases A to H and J of RULES 15 on the model and panics where it differs from them.
 pub fn cases() {
     let house = |last| [(8, 20), (2, 20), (3, 50), (2, 100), (last, 200)];
     let source = |s| [(s, 10), (1, 10), (1, 15), (2, 26)];
