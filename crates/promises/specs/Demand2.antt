@@ -1,5 +1,5 @@
--- DEMAND 2 stands here on one page: the record `Demand-2` has the user's words, sentence by sentence, above what we make of
--- them, and `demand-2` shows that all of it holds. It speaks of `readOf`, `admitOf`, `stepOf` and `energyOf`, which the
+-- DEMAND 2 stands here on one page: the record `Demand-2` has the user's words, a field for each sentence; the records above
+-- it say what we make of them, and `demand-2` shows that all of it holds. It speaks of `readOf`, `admitOf`, `stepOf` and `energyOf`, which the
 -- contracts of `table::read`, `admission::admit`, `scheduler::step` and `scheduler::energy` give as their whole results.
 -- In a state s the clock t is `s .clock`, H is `s .sleep .period` and S is `s .sleep .work`.
 use Prim.Native.Nat.{ℕ, _+_, _*_, _/_, _%_, _≤_, _<_}
@@ -27,7 +27,7 @@ use Rattle.scheduler.specs.declared.Tick.{Tick}
 use Rattle.scheduler.specs.declared.Tick.the-variants.{Run, Slot, Tail}
 use Rattle.scheduler.specs.declared.Ticked.the-variants as ticked
 use Rattle.scheduler.specs.declared.Answer.the-variants.{Accepted}
-use Rattle.scheduler.specs.States.{clockEnd, total}
+use Rattle.scheduler.specs.States.{clockEnd, recordIn, total}
 use Rattle.scheduler.specs.Applies.{Rules-kept}
 use Rattle.scheduler.specs.Starts.{freshState, Given}
 use Rattle.scheduler.specs.Steps.{tickOf, made, stepOf}
@@ -39,29 +39,28 @@ use Rattle.scheduler.proofs.MayRunLaws as words
 use Rattle.scheduler.proofs.AnswerLaws.{energy-reads}
 use Rattle.scheduler.proofs.HistoryLaws.{history-kept, history-counted, accounts}
 
-pub record Demand-2 : Type 0 where
-  -- "Each tick runs, sleeps or waits exactly as Energy-Saving Rate-Harmonized Scheduling (RTSS 2008) says, in whole ticks
-  -- as [docs/RULES.md] states it." It is said of a state and a tally that keep their rules, before the clock's end; any
-  -- others are refused (demand 1). The answer is a slot tick exactly where t mod H is below S;
-  pub slot-exactly : (s : State) (t : Tally) → Rules-kept s t → s .clock < clockEnd → (stepOf s t .answer ≡ ticked.Tick Slot) ↔ (s .clock % s .sleep .period < s .sleep .work)
-  -- a run of task k exactly where it is not below S and k is the lowest-numbered working task whose job may run;
-  pub run-exactly : (s : State) (t : Tally) → Rules-kept s t → s .clock < clockEnd → (k : ℕ)
-      → (stepOf s t .answer ≡ ticked.Tick (Run k)) ↔ ((s .sleep .work ≤ s .clock % s .sleep .period) × First-to-run s k)
-  -- a tail tick exactly where it is not below S and no task works on a job that may run.
-  pub tail-exactly : (s : State) (t : Tally) → Rules-kept s t → s .clock < clockEnd
-      → (stepOf s t .answer ≡ ticked.Tick Tail) ↔ ((s .sleep .work ≤ s .clock % s .sleep .period) × ((i : ℕ) → i < s .n → May-run s i → ⊥))
-  -- A job released at a may run from the smallest multiple of H that is at least a: `ready h a` is a multiple of h, is at
-  -- least a, and is at most every other number that is both.
-  pub ready-is-least : (h a : ℕ) → 1 ≤ h → (ready h a % h ≡ 0) × (a ≤ ready h a) × ((m : ℕ) → m % h ≡ 0 → a ≤ m → ready h a ≤ m)
+-- The tick of a state with a tally is the defined one. The answer is a slot tick exactly where t mod H is below S; a run
+-- of task k exactly where it is not below S and k is the lowest-numbered working task whose job may run; a tail tick
+-- exactly where it is not below S and no task works on a job that may run.
+pub record Tick-is (s : State) (t : Tally) : Type 0 where
+  pub slot-exactly : (stepOf s t .answer ≡ ticked.Tick Slot) ↔ (s .clock % s .sleep .period < s .sleep .work)
+  pub run-exactly : (k : ℕ) → (stepOf s t .answer ≡ ticked.Tick (Run k)) ↔ ((s .sleep .work ≤ s .clock % s .sleep .period) × First-to-run s k)
+  pub tail-exactly : (stepOf s t .answer ≡ ticked.Tick Tail) ↔ ((s .sleep .work ≤ s .clock % s .sleep .period) × ((i : ℕ) → i < s .n → May-run s i → ⊥))
+  -- A job released at a may run from the smallest multiple of H that is at least a: that is `ready`, a multiple of H, at
+  -- least a, and at most every other number that is both.
+  pub ready-is-least : (a : ℕ) → let h = s .sleep .period in (ready h a % h ≡ 0) × (a ≤ ready h a) × ((m : ℕ) → m % h ≡ 0 → a ≤ m → ready h a ≤ m)
   -- The state and the tally after the tick are those of RULES 7 (`made`, with `afterTick` and `raised`).
-  pub each-tick : (s : State) (t : Tally) → Rules-kept s t → s .clock < clockEnd → stepOf s t ≡ made s t (tickOf s)
-  -- "A sound set is admitted exactly when every task has a window, within its limit, that holds its demand": a table
-  -- reads as sound exactly when the rules of RULES 2 hold of it, and a sound one of n tasks is admitted exactly then.
-  pub sound-exactly : (bytes : List ℕ) (n : ℕ) → (readOf bytes ≡ read.Sound n) ↔ Sound-table bytes n
-  pub admitted-exactly : (bytes : List ℕ) (n : ℕ) → Sound-table bytes n → (admitOf bytes .answer ≡ Admitted n) ↔ ((i : ℕ) → i < n → Has-window (rulesOf bytes) i)
-  -- "the figures and counts reported are the defined ones": whether a sound table is admitted or not, the windows
-  -- reported are the least ones, the figures theirs, the rounds the replacements done, and what no task fills is zero
-  -- (`Judged`, `Rows` and `Row` say so).
+  pub leaves : stepOf s t ≡ made s t (tickOf s)
+
+-- A table reads as sound exactly when the rules of RULES 2 hold of it, and a sound one of n tasks is admitted exactly when
+-- every task has a window.
+pub record Verdict-is (bytes : List ℕ) (n : ℕ) : Type 0 where
+  pub sound-exactly : (readOf bytes ≡ read.Sound n) ↔ Sound-table bytes n
+  pub admitted-exactly : Sound-table bytes n → (admitOf bytes .answer ≡ Admitted n) ↔ ((i : ℕ) → i < n → Has-window (rulesOf bytes) i)
+
+-- What is reported is what is defined. Whether a sound table is admitted or not, the windows reported are the least ones,
+-- the figures theirs, the rounds the replacements done, and what no task fills is zero (`Judged`, `Rows` and `Row`).
+pub record Reported : Type 0 where
   pub figures-are-the-defined-ones : (bytes : List ℕ) (n : ℕ) → Sound-table bytes n → Judged (rulesOf bytes) n (admitOf bytes)
   -- Over every list of calls from the start of a sound table that lends its own tally to each step, zeros first and
   -- untouched in between, run, slot and tail ticks sum to the clock, and run ticks plus all work left equals the sum of
@@ -77,29 +76,50 @@ pub record Demand-2 : Type 0 where
   pub energy-is : (t : Tally) (run sleep : ℕ) → energyOf t run sleep .answer ≡ Accepted
       → energyOf t run sleep .nanojoules ≡ t .run * run + t .slot * sleep + t .tail * sleep
 
+pub record Demand-2 : Type 0 where
+  -- "Each tick runs, sleeps or waits exactly as Energy-Saving Rate-Harmonized Scheduling (RTSS 2008) says, in whole ticks
+  -- as [docs/RULES.md] states it." It is said of a state and a tally that keep their rules, before the clock's end; any
+  -- others are refused (demand 1).
+  pub each-tick-is-the-defined-one : (s : State) (t : Tally) → Rules-kept s t → s .clock < clockEnd → Tick-is s t
+  -- "A sound set is admitted exactly when every task has a window, within its limit, that holds its demand;
+  pub the-verdict-is-the-defined-one : (bytes : List ℕ) (n : ℕ) → Verdict-is bytes n
+  -- the figures and counts reported are the defined ones."
+  pub what-is-reported-is-defined : Reported
+
 -- What the step of a state and a tally that keep their rules answers is the state's tick.
 answers : (s : State) (t : Tally) → Rules-kept s t → s .clock < clockEnd → (tick : Tick) → (stepOf s t .answer ≡ ticked.Tick tick) ↔ (tickOf s ≡ tick)
 answers s t K before-end tick = rw (step-made s t (K .lawful-state) (K .counted) before-end) (λ e. cc, ap ticked.Tick)
 
+-- `ready h a` is the least multiple of h that is at least a.
+least : (h a : ℕ) → 1 ≤ h → (ready h a % h ≡ 0) × (a ≤ ready h a) × ((m : ℕ) → m % h ≡ 0 → a ≤ m → ready h a ≤ m)
+least h a p = (
+  ready-mod h a,
+  ready-up h a p,
+  λ m whole l. omega (arith, div-add-mod' m h, ready-by h a (m / h) p (omega (arith, div-add-mod' m h))),
+)
+
 -- DEMAND 2 HOLDS.
 pub demand-2 : Demand-2
+unfolding recordIn
 demand-2 = record {
-  slot-exactly = λ s t K l. (λ e. words.slot-exactly s .0 (answers s t K l Slot .0 e), λ f. answers s t K l Slot .1 (words.slot-exactly s .1 f));
-  run-exactly = λ s t K l k. (λ e. words.run-exactly s k .0 (answers s t K l (Run k) .0 e), λ f. answers s t K l (Run k) .1 (words.run-exactly s k .1 f));
-  tail-exactly = λ s t K l. (λ e. words.tail-exactly s .0 (answers s t K l Tail .0 e), λ f. answers s t K l Tail .1 (words.tail-exactly s .1 f));
-  ready-is-least = λ h a p. (
-    ready-mod h a,
-    ready-up h a p,
-    λ m whole l. omega (arith, div-add-mod' m h, ready-by h a (m / h) p (omega (arith, div-add-mod' m h))),
-  );
-  each-tick = λ s t K l. step-made s t (K .lawful-state) (K .counted) l;
-  sound-exactly = λ bytes n. (read-sound bytes n, sound-read bytes n);
-  admitted-exactly = λ bytes n S. laws.admitted-exactly bytes n (sound-read bytes n S);
-  figures-are-the-defined-ones = λ bytes n S. laws.admit-says bytes n (sound-read bytes n S);
-  ticks-sum-to-the-clock = λ g n calls S own. let e = sound-read (g .table) n S in rw e (history-counted g n calls e own .counted);
-  run-and-left-are-demanded = λ g n calls S own.
-      let e = sound-read (g .table) n S in
-      rw e (accounts (after (begun (freshState g n)) calls) (history-kept g n calls e) (history-counted g n calls e own));
-  task-by-task = λ g n calls i S l. let e = sound-read (g .table) n S in rw e (history-kept g n calls e .each i l);
-  energy-is = energy-reads;
+  each-tick-is-the-defined-one = λ s t K l. record {
+    slot-exactly = (λ e. words.slot-exactly s .0 (answers s t K l Slot .0 e), λ f. answers s t K l Slot .1 (words.slot-exactly s .1 f));
+    run-exactly = λ k. (λ e. words.run-exactly s k .0 (answers s t K l (Run k) .0 e), λ f. answers s t K l (Run k) .1 (words.run-exactly s k .1 f));
+    tail-exactly = (λ e. words.tail-exactly s .0 (answers s t K l Tail .0 e), λ f. answers s t K l Tail .1 (words.tail-exactly s .1 f));
+    ready-is-least = λ a. least (s .sleep .period) a (omega (arith, K .lawful-state .set .room));
+    leaves = step-made s t (K .lawful-state) (K .counted) l;
+  };
+  the-verdict-is-the-defined-one = λ bytes n. record {
+    sound-exactly = (read-sound bytes n, sound-read bytes n);
+    admitted-exactly = λ S. laws.admitted-exactly bytes n (sound-read bytes n S);
+  };
+  what-is-reported-is-defined = record {
+    figures-are-the-defined-ones = λ bytes n S. laws.admit-says bytes n (sound-read bytes n S);
+    ticks-sum-to-the-clock = λ g n calls S own. let e = sound-read (g .table) n S in rw e (history-counted g n calls e own .counted);
+    run-and-left-are-demanded = λ g n calls S own.
+        let e = sound-read (g .table) n S in
+        rw e (accounts (after (begun (freshState g n)) calls) (history-kept g n calls e) (history-counted g n calls e own));
+    task-by-task = λ g n calls i S l. let e = sound-read (g .table) n S in rw e (history-kept g n calls e .each i l);
+    energy-is = energy-reads;
+  };
 }

@@ -53,8 +53,8 @@ use Rattle.node.specs.Calls.{admitOn, startOn, releasedOn, releaseOn, movedOn, 
 use Rattle.node.specs.Saved.{calledAll, saved, restored}
 use Rattle.promises.specs.Cases.{_per_, bytesOf}
 use Rattle.promises.specs.Answers.{admission-gives, start-gives, release-gives, step-gives, energy-gives, unsound-refused, start-hands-back, release-is-accepted, state-keeps-its-rules, rules-are-kept, no-release-gets-6, no-step-gets-6, every-step-answers-a-tick}
-use Rattle.promises.specs.Demand1.{demand-1}
-use Rattle.promises.specs.Demand2.{demand-2}
+use Rattle.promises.specs.Demand1.{Refused-by-number, Unchanged, demand-1}
+use Rattle.promises.specs.Demand2.{Tick-is, Reported, demand-2}
 use Rattle.promises.specs.Demand3.{figureOf, worst, First-failing, any-state-rests, one-window-is-enough, every-finish-is-within, pattern-is-accepted, figure-is-reached, figure-is-enough, demand-3}
 use Rattle.promises.specs.Saved.{state-read-back, one-encoding, one-tally-encoding, release-on-words, step-on-words, start-on-words, words-follow-a-start, stop-changes-nothing}
 
@@ -115,9 +115,22 @@ eight-own = (tt, (tt, (tt, (tt, (tt, (tt, (tt, (tt, tt))))))))
 eight-kept : Rules-kept (history house eight .state) (history house eight .tally)
 eight-kept = rules-are-kept house 4 eight house-table eight-own
 
+-- These are the parts of demands 1 and 2 that have several sentences, and tick 8 in words.
+numbers : Refused-by-number
+numbers = demand-1 .bad-input-is-refused-by-number
+
+unchanged : Unchanged
+unchanged = demand-1 .all-is-left-unchanged
+
+reported : Reported
+reported = demand-2 .what-is-reported-is-defined
+
+eight-tick : Tick-is (history house eight .state) (history house eight .tally)
+eight-tick = demand-2 .each-tick-is-the-defined-one (history house eight .state) (history house eight .tally) eight-kept (omega (arith, house-tail .1))
+
 -- DEMAND 1 is used. Figure 1 is refused with 5 at task 2, which is the first without a window.
 figure-1-five : Lowest (Admission-applies (figure-1 .table)) (NoWindow 2 1)
-figure-1-five = demand-1 .admission-is-refused (figure-1 .table) (NoWindow 2 1) .0 figure-1-refused
+figure-1-five = numbers .admission-is-refused (figure-1 .table) (NoWindow 2 1) .0 figure-1-refused
 
 -- No bytes are refused with 1, by a start and by admission, with zeros, a state of no tasks and the words as they were.
 nothing-is-read : readOf [] ≡ read.Refused Length
@@ -125,17 +138,17 @@ unfolding readOf
 nothing-is-read = refl
 
 nothing-is-refused : Lowest (Table-applies []) Length
-nothing-is-refused = demand-1 .start-is-refused (given []) Length .0 (rw nothing-is-read)
+nothing-is-refused = numbers .start-is-refused (given []) Length .0 (rw nothing-is-read)
 
 nothing-is-given : (admissionGives Length ≡ true) × (startGives Length ≡ true)
 nothing-is-given = (admission-gives [] Length (rw nothing-is-read), start-gives (given []) Length (rw nothing-is-read))
 
 nothing-hands-back : (admitOf [] ≡ verdict (Refused Length) zeros zeros zeros) × (startOf (given []) .state ≡ noState)
-nothing-hands-back = (unsound-refused [] Length nothing-is-read, demand-1 .start-gives-no-state (given []) Length (rw nothing-is-read))
+nothing-hands-back = (unsound-refused [] Length nothing-is-read, unchanged .start-gives-no-state (given []) Length (rw nothing-is-read))
 
 nothing-leaves-words : (admitOn [] (7 ∷ []) .verdict ≡ 7 ∷ []) × (startOn [] (7 ∷ []) .state ≡ 7 ∷ [])
 unfolding readOf
-nothing-leaves-words = (demand-1 .admit-leaves-words [] (7 ∷ []) (omega arith) (λ e. omega arith), demand-1 .start-leaves-words [] (7 ∷ []) (omega arith))
+nothing-leaves-words = (unchanged .admit-leaves-words [] (7 ∷ []) (omega arith) (λ e. omega arith), unchanged .start-leaves-words [] (7 ∷ []) (omega arith))
 
 -- At tick 8 a release of task 1 is refused with 10, since 8 is no multiple of 20, and leaves the state.
 house-off-boundary : releaseOf (history house eight .state) 1 2 .answer ≡ answer.Refused OffBoundary
@@ -144,9 +157,9 @@ house-off-boundary = refl
 
 house-off-boundary-is-ten : Lowest (Release-applies (history house eight .state) 1 2) OffBoundary × (releaseGives OffBoundary ≡ true) × (releaseOf (history house eight .state) 1 2 .state ≡ history house eight .state)
 house-off-boundary-is-ten = (
-  demand-1 .release-is-refused (history house eight .state) 1 2 OffBoundary .0 house-off-boundary,
+  numbers .release-is-refused (history house eight .state) 1 2 OffBoundary .0 house-off-boundary,
   release-gives (history house eight .state) 1 2 OffBoundary house-off-boundary,
-  demand-1 .release-unchanged (history house eight .state) 1 2 OffBoundary house-off-boundary,
+  unchanged .release-unchanged (history house eight .state) 1 2 OffBoundary house-off-boundary,
 )
 
 -- At tick 8 a step that is lent a tally of zeros is refused with 6, and leaves state and tally.
@@ -157,46 +170,46 @@ house-wrong-tally = refl
 house-wrong-tally-is-six : Lowest (Step-applies (history house eight .state) noTicks) Unfit × (stepGives Unfit ≡ true)
     × ((stepOf (history house eight .state) noTicks .state ≡ history house eight .state) × (stepOf (history house eight .state) noTicks .tally ≡ noTicks))
 house-wrong-tally-is-six = (
-  demand-1 .step-is-refused (history house eight .state) noTicks Unfit .0 house-wrong-tally,
+  numbers .step-is-refused (history house eight .state) noTicks Unfit .0 house-wrong-tally,
   step-gives (history house eight .state) noTicks Unfit house-wrong-tally,
-  demand-1 .step-unchanged (history house eight .state) noTicks Unfit house-wrong-tally,
+  unchanged .step-unchanged (history house eight .state) noTicks Unfit house-wrong-tally,
 )
 
 -- Words that are too few encode no state, and are left as they are.
 few-words : (releaseOn (7 ∷ []) 1 1 .state ≡ 7 ∷ []) × ((stepOn (7 ∷ []) (9 ∷ []) .state ≡ 7 ∷ []) × (stepOn (7 ∷ []) (9 ∷ []) .tally ≡ 9 ∷ []))
 unfolding releaseOn stepOn encoded
-few-words = (demand-1 .release-leaves-words (7 ∷ []) 1 1 (omega arith), demand-1 .step-leaves-words (7 ∷ []) (9 ∷ []) (omega arith))
+few-words = (unchanged .release-leaves-words (7 ∷ []) 1 1 (omega arith), unchanged .step-leaves-words (7 ∷ []) (9 ∷ []) (omega arith))
 
 -- A reading at 1,000,001 microwatts is refused with 13 and is 0; case J's at 23,000 and 16 is 253,464.
 strong : Lowest (Energy-applies noTicks 1000001 16) Power × (energyGives Power ≡ true) × (energyOf noTicks 1000001 16 .nanojoules ≡ 0)
-strong = (demand-1 .energy-is-refused noTicks 1000001 16 Power .0 refl, energy-gives noTicks 1000001 16 Power refl, demand-1 .energy-zero noTicks 1000001 16 Power refl)
+strong = (numbers .energy-is-refused noTicks 1000001 16 Power .0 refl, energy-gives noTicks 1000001 16 Power refl, unchanged .energy-zero noTicks 1000001 16 Power refl)
 
 case-j : energyOf (record { run = 11; slot = 16; tail = 13 }) 23000 16 .nanojoules ≡ 253464
-case-j = demand-2 .energy-is (record { run = 11; slot = 16; tail = 13 }) 23000 16 refl
+case-j = reported .energy-is (record { run = 11; slot = 16; tail = 13 }) 23000 16 refl
 
 -- DEMAND 2 is used. Every task of the house table has a window, and the first row of its verdict is right.
 house-windows : (i : ℕ) → i < 4 → Has-window (rulesOf (house .table)) i
-house-windows = demand-2 .admitted-exactly (house .table) 4 house-table .0 house-admitted
+house-windows = demand-2 .the-verdict-is-the-defined-one (house .table) 4 .admitted-exactly house-table .0 house-admitted
 
 house-judged : Judged (rulesOf (house .table)) 4 (admitOf (house .table))
-house-judged = demand-2 .figures-are-the-defined-ones (house .table) 4 house-table
+house-judged = reported .figures-are-the-defined-ones (house .table) 4 house-table
 
 -- Tick 0 is a slot tick, since 0 is below 8.
 house-sleeps : stepOf (history house [] .state) (history house [] .tally) .answer ≡ ticked.Tick Slot
 unfolding house bytesOf wordAt recordAt firstFrom askRecords askOrder askSleep readOf folded Each
 house-sleeps =
-    demand-2 .slot-exactly (history house [] .state) (history house [] .tally) (rules-are-kept house 4 [] house-table tt) (omega arith) .1 (omega arith)
+    demand-2 .each-tick-is-the-defined-one (history house [] .state) (history house [] .tally) (rules-are-kept house 4 [] house-table tt) (omega arith) .slot-exactly .1 (omega arith)
 
 -- No job may run at the tail tick 8.
 house-waits : (i : ℕ) → i < history house eight .state .n → May-run (history house eight .state) i → ⊥
-house-waits = demand-2 .tail-exactly (history house eight .state) (history house eight .tally) eight-kept (omega (arith, house-tail .1)) .0 (house-tail .0) .1
+house-waits = eight-tick .tail-exactly .0 (house-tail .0) .1
 
 -- The tick makes the clock 9, and the counts sum to the clock; nothing was demanded.
 house-ticks : stepOf (history house eight .state) (history house eight .tally) ≡ made (history house eight .state) (history house eight .tally) (tickOf (history house eight .state))
-house-ticks = demand-2 .each-tick (history house eight .state) (history house eight .tally) eight-kept (omega (arith, house-tail .1))
+house-ticks = eight-tick .leaves
 
 house-counts : total (history house eight .tally) ≡ history house eight .state .clock
-house-counts = demand-2 .ticks-sum-to-the-clock house 4 eight house-table eight-own
+house-counts = reported .ticks-sum-to-the-clock house 4 eight house-table eight-own
 
 -- A job of task 1 released at 0 runs at 8.
 released-own : Each Own (release 1 2 ∷ eight)
@@ -206,8 +219,8 @@ released-own = (tt, eight-own)
 house-runs : stepOf (history house (release 1 2 ∷ eight) .state) (history house (release 1 2 ∷ eight) .tally) .answer ≡ ticked.Tick (Run 1)
 unfolding eight house bytesOf wordAt recordAt firstFrom askRecords askOrder askSleep readOf ceil ready every recordIn periodBefore stateFits entriesOf stepOf next folded releaseTime askDemand askTask mayRelease releaseAnswer
 house-runs =
-    demand-2 .run-exactly (history house (release 1 2 ∷ eight) .state) (history house (release 1 2 ∷ eight) .tally)
-    (rules-are-kept house 4 (release 1 2 ∷ eight) house-table released-own) (omega arith) 1 .1 (
+    demand-2 .each-tick-is-the-defined-one (history house (release 1 2 ∷ eight) .state) (history house (release 1 2 ∷ eight) .tally)
+    (rules-are-kept house 4 (release 1 2 ∷ eight) house-table released-own) (omega arith) .run-exactly 1 .1 (
       omega arith,
       record {
         from-one = omega arith;
@@ -221,13 +234,14 @@ house-runs =
 house-demanded : (history house (release 1 2 ∷ eight) .tally .run + sumTo places (leftIn (history house (release 1 2 ∷ eight) .state)) ≡ sumTo places (history house (release 1 2 ∷ eight) .demands))
     × (history house (release 1 2 ∷ eight) .runs 0 + leftIn (history house (release 1 2 ∷ eight) .state) 0 ≡ history house (release 1 2 ∷ eight) .demands 0)
 house-demanded = (
-  demand-2 .run-and-left-are-demanded house 4 (release 1 2 ∷ eight) house-table released-own,
-  demand-2 .task-by-task house 4 (release 1 2 ∷ eight) 0 house-table (omega arith),
+  reported .run-and-left-are-demanded house 4 (release 1 2 ∷ eight) house-table released-own,
+  reported .task-by-task house 4 (release 1 2 ∷ eight) 0 house-table (omega arith),
 )
 
 -- A job released at 21 may run from 40, not later.
 house-ready : ready 20 21 ≤ 40
-house-ready = demand-2 .ready-is-least 20 21 (omega arith) .2 40 refl (omega arith)
+unfolding eight house bytesOf wordAt recordAt firstFrom askRecords askOrder askSleep readOf ceil ready every recordIn periodBefore stateFits entriesOf stepOf next folded
+house-ready = eight-tick .ready-is-least 21 .2 40 refl (omega arith)
 
 -- THE ANSWERS are used: a start on Figure 1, which would get 5, is accepted and hands back the table.
 figure-1-starts : (startOf figure-1 .answer ≡ answer.Accepted) × Fresh (figure-1 .table) 3 (startOf figure-1 .state)
