@@ -25,7 +25,7 @@ use Rattle.scheduler.specs.declared.Ticked.the-variants as ticked
 use Rattle.scheduler.specs.States.{entryIn}
 use Rattle.scheduler.specs.Starts.{Given, freshState}
 use Rattle.scheduler.specs.Steps.{firstReady, stepOf}
-use Rattle.scheduler.specs.History.{Call, release, step, lend, Finish, Past, ended, finished, next, after, begun}
+use Rattle.histories.specs.History.{Call, release, step, lend, Finish, Past, ended, finished, next, after, begun}
 use Rattle.bridge.specs.Views.{jobView, viewOf}
 use Rattle.bridge.specs.Runs.{Bridged, records, tasks, bridged-next, bridged-begun, begun-fresh, reach-after, history-reaches, rules-sound}
 use Rattle.bridge.specs.Ticks.{run-is}

@@ -30,11 +30,11 @@ use Rattle.scheduler.specs.declared.Job.{Job}
 use Rattle.scheduler.specs.declared.Job.the-variants.{Resting, Working}
 use Rattle.scheduler.specs.States.{clockEnd, entryIn}
 use Rattle.scheduler.specs.Starts.{freshState, Given}
-use Rattle.scheduler.specs.History.{Call, step, Taken, Past, next, after, begun, At-work}
-use Rattle.scheduler.specs.Jobs.{Standing, done, going, Finishes-at}
-use Rattle.scheduler.specs.Pattern.{releasesAt, worstPattern}
-use Rattle.scheduler.proofs.HistoryLaws.{history-kept}
-use Rattle.scheduler.proofs.JobLaws.{stands-after}
+use Rattle.histories.specs.History.{Call, step, Taken, Past, next, after, begun, At-work}
+use Rattle.histories.specs.Jobs.{Standing, done, going, Finishes-at}
+use Rattle.histories.specs.Pattern.{releasesAt, worstPattern}
+use Rattle.histories.proofs.HistoryLaws.{history-kept}
+use Rattle.histories.proofs.JobLaws.{stands-after}
 use Rattle.bridge.specs.Views.{jobView, viewOf, job-back, last-back}
 use Rattle.bridge.specs.Runs.{rules-sound}
 use Rattle.bridge.specs.Worst.{offsets, In-tick, pattern-runs}

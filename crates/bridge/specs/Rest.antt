@@ -15,7 +15,7 @@ use Rattle.scheduler.specs.declared.Ticked.the-variants as ticked
 use Rattle.scheduler.specs.States.{recordIn}
 use Rattle.scheduler.specs.Lawful.{Lawful-state}
 use Rattle.scheduler.specs.Steps.{firstReady, stepOf}
-use Rattle.scheduler.specs.History.{Call, Past, after}
+use Rattle.histories.specs.History.{Call, Past, after}
 use Rattle.scheduler.proofs.PlaceLaws.{Sized}
 use Rattle.bridge.specs.Views.{viewOf, holds-own}
 use Rattle.bridge.specs.Ticks.{made-tick, Run-is, run-is, tail-is}

@@ -26,7 +26,7 @@ use Rattle.scheduler.specs.Lawful.{Lawful-state}
 use Rattle.scheduler.specs.Starts.{freshState, Given}
 use Rattle.scheduler.specs.Releases.{releaseAnswer, releasedState, releaseOf, releasedEntry}
 use Rattle.scheduler.specs.Steps.{firstReady, workedOf, tickOf, stepOf, afterRun, afterTick}
-use Rattle.scheduler.specs.History.{Call, release, step, lend, Past, next, after, begun}
+use Rattle.histories.specs.History.{Call, release, step, lend, Past, next, after, begun}
 use Rattle.scheduler.proofs.ReleaseLaws.{accepted-says, release-place}
 use Rattle.scheduler.proofs.PlaceLaws.{Sized, One-place, task-stays, keeps-lawful}
 use Rattle.scheduler.proofs.TickLaws.{Tick-is, slots, runs, tails, tick-is, run-place, after-lawful}

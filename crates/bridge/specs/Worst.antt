@@ -35,11 +35,11 @@ use Rattle.scheduler.specs.States.{clockEnd, noEntry, entryIn}
 use Rattle.scheduler.specs.Starts.{freshState, Given}
 use Rattle.scheduler.specs.Releases.{releasedState, releaseOf}
 use Rattle.scheduler.specs.Steps.{tickOf, stepOf, afterTick}
-use Rattle.scheduler.specs.History.{release, step, Past, next, after, begun}
-use Rattle.scheduler.specs.Pattern.{dueAt, releasesAt, worstPattern}
+use Rattle.histories.specs.History.{release, step, Past, next, after, begun}
+use Rattle.histories.specs.Pattern.{dueAt, releasesAt, worstPattern}
 use Rattle.scheduler.proofs.ReleaseLaws.{Free-task, says-accepted}
 use Rattle.scheduler.proofs.StepLaws.{step-made}
-use Rattle.scheduler.proofs.HistoryLaws.{Counted, counted-next, counted-begun}
+use Rattle.histories.proofs.HistoryLaws.{Counted, counted-next, counted-begun}
 use Rattle.bridge.specs.Views.{lastView, viewOf, rest-back, last-back, work-of, period-of}
 use Rattle.bridge.specs.Moves.{beyond-rests, release-moves}
 use Rattle.bridge.specs.Runs.{Bridged, records, tasks, bridged-next, bridged-begun, begun-fresh, tick-moves, rules-sound}

@@ -3,9 +3,9 @@
 use mathlib.Core.Path.{_≡_, refl, _∙_, ap}
 use mathlib.Core.List.{List, [], _∷_}
 use Rattle.base.specs.Fold.{folded}
-use Rattle.scheduler.specs.History.{Call, release, step, lend, Past, next, after}
+use Rattle.histories.specs.History.{Call, release, step, lend, Past, next, after}
 use Rattle.scheduler.proofs.PlaceLaws.{Sized}
-use Rattle.scheduler.proofs.HistoryLaws.{Kept, kept-next}
+use Rattle.histories.proofs.HistoryLaws.{Kept, kept-next}
 use Rattle.node.specs.Calls.{releaseOn, stepOn}
 use Rattle.node.specs.Saved.{Buffers, called, calledAll, saved, restored}
 use Rattle.node.proofs.LayoutLaws.{read-back, state-encoded}

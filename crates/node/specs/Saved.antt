@@ -3,7 +3,7 @@
 use Prim.Native.Nat.{ℕ}
 use mathlib.Core.List.{List}
 use Rattle.base.specs.Fold.{folded}
-use Rattle.scheduler.specs.History.{Call, release, step, lend, Past}
+use Rattle.histories.specs.History.{Call, release, step, lend, Past}
 use Rattle.node.specs.Layout.{stateWords, tallyWords, stateIn, tallyIn}
 use Rattle.node.specs.Calls.{releaseOn, stepOn}
 

@@ -30,8 +30,8 @@ use Rattle.scheduler.specs.Releases.{releaseOf}
 use Rattle.scheduler.specs.Steps.{tickOf, stepOf}
 use Rattle.scheduler.specs.Energies.{powerMost, energyOf}
 use Rattle.scheduler.specs.Applies.{Releasable, Rules-kept}
-use Rattle.scheduler.specs.History.{Own, Call, history}
-use Rattle.scheduler.proofs.HistoryLaws.{history-kept, history-counted}
+use Rattle.histories.specs.History.{Own, Call, history}
+use Rattle.histories.proofs.HistoryLaws.{history-kept, history-counted}
 use Rattle.scheduler.proofs.RefusalLaws as refusals
 use Rattle.scheduler.proofs.AnswerLaws as laws
 

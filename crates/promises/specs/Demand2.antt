@@ -33,11 +33,11 @@ use Rattle.scheduler.specs.Starts.{freshState, Given}
 use Rattle.scheduler.specs.Steps.{tickOf, made, stepOf}
 use Rattle.scheduler.specs.MayRun.{May-run, First-to-run}
 use Rattle.scheduler.specs.Energies.{energyOf}
-use Rattle.scheduler.specs.History.{Own, Call, after, begun, history, leftIn}
+use Rattle.histories.specs.History.{Own, Call, after, begun, history, leftIn}
 use Rattle.scheduler.proofs.StepLaws.{step-made}
 use Rattle.scheduler.proofs.MayRunLaws as words
 use Rattle.scheduler.proofs.AnswerLaws.{energy-reads}
-use Rattle.scheduler.proofs.HistoryLaws.{history-kept, history-counted, accounts}
+use Rattle.histories.proofs.HistoryLaws.{history-kept, history-counted, accounts}
 
 -- The tick of a state with a tally is the defined one. The answer is a slot tick exactly where t mod H is below S; a run
 -- of task k exactly where it is not below S and k is the lowest-numbered working task whose job may run; a tail tick

@@ -38,12 +38,12 @@ use Rattle.scheduler.specs.declared.Ticked.the-variants as ticked
 use Rattle.scheduler.specs.States.{clockEnd, noEntry, entryIn}
 use Rattle.scheduler.specs.Starts.{freshState, startOf, Given}
 use Rattle.scheduler.specs.Steps.{stepOf}
-use Rattle.scheduler.specs.History.{Past, Call, Taken, Finish, after, begun, history, At-work}
-use Rattle.scheduler.specs.Jobs.{finishAt, Finished, done, going, Followed, Was-released, Finishes-at}
-use Rattle.scheduler.specs.Pattern.{worstPattern}
+use Rattle.histories.specs.History.{Past, Call, Taken, Finish, after, begun, history, At-work}
+use Rattle.histories.specs.Jobs.{finishAt, Finished, done, going, Followed, Was-released, Finishes-at}
+use Rattle.histories.specs.Pattern.{worstPattern}
 use Rattle.scheduler.proofs.PlaceLaws.{Sized}
-use Rattle.scheduler.proofs.JobLaws.{history-followed}
-use Rattle.scheduler.proofs.TakenLaws.{history-sourced}
+use Rattle.histories.proofs.JobLaws.{history-followed}
+use Rattle.histories.proofs.TakenLaws.{history-sourced}
 use Rattle.bridge.specs.Moves.{beyond-rests}
 use Rattle.bridge.specs.Runs as runs
 use Rattle.bridge.specs.Bounds as bounds

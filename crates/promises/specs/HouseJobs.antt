@@ -23,9 +23,9 @@ use Rattle.scheduler.specs.declared.Job.the-variants.{Working}
 use Rattle.scheduler.specs.States.{entryIn, recordIn, periodBefore, stateFits, entriesOf}
 use Rattle.scheduler.specs.Releases.{askDemand, askTask, mayRelease, releaseAnswer}
 use Rattle.scheduler.specs.Steps.{stepOf}
-use Rattle.scheduler.specs.History.{Call, release, lend, Taken, Finish, next, history}
-use Rattle.scheduler.specs.Jobs.{Finished, Followed, Was-released, Finishes-at}
-use Rattle.scheduler.specs.Pattern.{dueAt, releasesAt, worstPattern}
+use Rattle.histories.specs.History.{Call, release, lend, Taken, Finish, next, history}
+use Rattle.histories.specs.Jobs.{Finished, Followed, Was-released, Finishes-at}
+use Rattle.histories.specs.Pattern.{dueAt, releasesAt, worstPattern}
 use Rattle.promises.specs.Cases.{bytesOf}
 use Rattle.promises.specs.Demand3.{figureOf, worst, every-job-is-followed, every-job-was-released, every-finish-was-released, figure-within-period, demand-3}
 use Rattle.promises.specs.Uses.{house, house-table, house-admitted}

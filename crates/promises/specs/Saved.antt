@@ -17,8 +17,8 @@ use Rattle.scheduler.specs.States.{noTicks}
 use Rattle.scheduler.specs.Starts.{Given, startOf, freshState}
 use Rattle.scheduler.specs.Releases.{releaseOf}
 use Rattle.scheduler.specs.Steps.{stepOf}
-use Rattle.scheduler.specs.History.{Call, Past, next, after, begun, history}
-use Rattle.scheduler.proofs.HistoryLaws.{kept-begun, history-kept}
+use Rattle.histories.specs.History.{Call, Past, next, after, begun, history}
+use Rattle.histories.proofs.HistoryLaws.{kept-begun, history-kept}
 use Rattle.node.specs.Layout.{stateSize, tallySize, stateWords, tallyWords, stateIn, tallyIn, encoded, tallyEncoded}
 use Rattle.node.specs.Calls.{packed, StateLeft, startOn, releasedOn, releaseOn, movedOn, stepOn}
 use Rattle.node.specs.Saved.{calledAll, saved, restored}

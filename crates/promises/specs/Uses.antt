@@ -44,9 +44,9 @@ use Rattle.scheduler.specs.Energies.{energyOf}
 use Rattle.scheduler.specs.Applies.{Release-applies, Step-applies, Energy-applies, Rules-kept}
 use Rattle.scheduler.specs.Fresh.{Fresh}
 use Rattle.scheduler.specs.MayRun.{May-run}
-use Rattle.scheduler.specs.History.{Own, Call, release, step, Finish, Past, next, after, history, leftIn, At-work}
+use Rattle.histories.specs.History.{Own, Call, release, step, Finish, Past, next, after, history, leftIn, At-work}
 use Rattle.scheduler.specs.Starts.{Given, noState, startOf, freshState}
-use Rattle.scheduler.proofs.HistoryLaws.{history-kept}
+use Rattle.histories.proofs.HistoryLaws.{history-kept}
 use Rattle.bridge.specs.Runs.{rules-sound}
 use Rattle.node.specs.Layout.{stateWords, tallyWords, stateIn, tallyIn, encoded}
 use Rattle.node.specs.Calls.{admitOn, startOn, releasedOn, releaseOn, movedOn, stepOn}

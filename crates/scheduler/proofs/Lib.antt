@@ -14,12 +14,6 @@ pub mod MayRunLaws
 pub mod StepLaws
 -- `StartLaws` proves that a fresh state keeps the rules.
 pub mod StartLaws
--- `HistoryLaws` proves what every history keeps.
-pub mod HistoryLaws
--- `JobLaws` proves that every accepted release is followed to its finish.
-pub mod JobLaws
--- `TakenLaws` proves that every job comes from an accepted release.
-pub mod TakenLaws
 -- `RefusalLaws` proves which refusals each call can give.
 pub mod RefusalLaws
 -- `AnswerLaws` proves that an answer is the lowest-numbered refusal that applies.

@@ -16,9 +16,3 @@ pub mod Applies
 pub mod MayRun
 -- `Energies` defines the energy of a tally.
 pub mod Energies
--- `History` defines lists of calls and what they make of a start.
-pub mod History
--- `Jobs` says where the job of an accepted release stands.
-pub mod Jobs
--- `Pattern` gives the worst pattern as a list of calls.
-pub mod Pattern

@@ -13,26 +13,26 @@ use Rattle.base.proofs.Split.{by-eq}
 use Rattle.base.proofs.FoldLaws.{folded-keeps}
 use Rattle.table.specs.declared.Reading.the-variants as read
 use Rattle.table.specs.Sound.{readOf}
 use Rattle.scheduler.specs.declared.Job.{Job}
 use Rattle.scheduler.specs.declared.Job.the-variants.{Resting, Working}
 use Rattle.scheduler.specs.declared.Entry.{Entry}
 use Rattle.scheduler.specs.declared.State.{State}
 use Rattle.scheduler.specs.declared.Tally.{Tally}
 use Rattle.scheduler.specs.declared.Ticked.the-variants as ticked
 use Rattle.scheduler.specs.declared.Answer.{Answer}
 use Rattle.scheduler.specs.declared.Answer.the-variants.{Accepted, Refused}
 use Rattle.scheduler.specs.States.{clockEnd, entryIn, aged}
 use Rattle.scheduler.specs.Lawful.{Lawful-state}
 use Rattle.scheduler.specs.Starts.{Given, freshState}
 use Rattle.scheduler.specs.Releases.{releaseAnswer, releasedState}
 use Rattle.scheduler.specs.Steps.{firstReady, workedJob, workedOf, tickOf, afterRun, afterTick, stepOf}
-use Rattle.scheduler.specs.History.{Call, release, step, lend, Taken, Finish, Past, ended, finished, next, after, begun}
-use Rattle.scheduler.specs.Jobs.{finishAt, Standing, done, going, Followed}
+use Rattle.histories.specs.History.{Call, release, step, lend, Taken, Finish, Past, ended, finished, next, after, begun}
+use Rattle.histories.specs.Jobs.{finishAt, Standing, done, going, Followed}
 use Rattle.scheduler.proofs.PlaceLaws.{Sized, One-place}
 use Rattle.scheduler.proofs.ReleaseLaws.{Free-task, accepted-says, release-place}
 use Rattle.scheduler.proofs.TickLaws.{Tick-is, slots, runs, tails, tick-is, run-place}
 use Rattle.scheduler.proofs.StepLaws.{Step-is, moves, stays, step-is}
-use Rattle.scheduler.proofs.HistoryLaws.{Kept, kept-next, kept-begun}
+use Rattle.histories.proofs.HistoryLaws.{Kept, kept-next, kept-begun}
 
 -- A finish stays in the list.
 ended-keeps : (x : Finish) (place clock : ℕ) (fs : List Finish) (job : Job) → In x fs → In x (ended place clock fs job)

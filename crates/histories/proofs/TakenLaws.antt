@@ -13,27 +13,27 @@ use Rattle.base.proofs.Split.{by-eq}
 use Rattle.base.proofs.FoldLaws.{folded-keeps}
 use Rattle.table.specs.declared.Reading.the-variants as read
 use Rattle.table.specs.Sound.{places, readOf}
 use Rattle.scheduler.specs.declared.Job.{Job}
 use Rattle.scheduler.specs.declared.Job.the-variants.{Resting, Working}
 use Rattle.scheduler.specs.declared.Entry.{Entry}
 use Rattle.scheduler.specs.declared.State.{State}
 use Rattle.scheduler.specs.declared.Tally.{Tally}
 use Rattle.scheduler.specs.declared.Ticked.the-variants as ticked
 use Rattle.scheduler.specs.declared.Answer.{Answer}
 use Rattle.scheduler.specs.declared.Answer.the-variants.{Accepted, Refused}
 use Rattle.scheduler.specs.States.{clockEnd, entryIn}
 use Rattle.scheduler.specs.Lawful.{Lawful-state}
 use Rattle.scheduler.specs.Starts.{Given, freshState}
 use Rattle.scheduler.specs.Releases.{releaseAnswer, releasedEntry, releasedState}
 use Rattle.scheduler.specs.Steps.{firstReady, workedJob, workedOf, tickOf, afterRun, afterTick, stepOf}
-use Rattle.scheduler.specs.History.{Call, release, step, lend, Taken, Finish, Past, ended, finished, next, after, begun}
-use Rattle.scheduler.specs.Jobs.{Was-released}
+use Rattle.histories.specs.History.{Call, release, step, lend, Taken, Finish, Past, ended, finished, next, after, begun}
+use Rattle.histories.specs.Jobs.{Was-released}
 use Rattle.scheduler.proofs.PlaceLaws.{Sized, One-place}
 use Rattle.scheduler.proofs.ReleaseLaws.{Free-task, accepted-says, release-place}
 use Rattle.scheduler.proofs.TickLaws.{worked-says, Tick-is, slots, runs, tails, tick-is, run-place}
 use Rattle.scheduler.proofs.StepLaws.{Step-is, moves, stays, step-is}
 use Rattle.scheduler.proofs.StartLaws.{fresh-rests}
-use Rattle.scheduler.proofs.HistoryLaws.{Kept, kept-next, kept-begun}
+use Rattle.histories.proofs.HistoryLaws.{Kept, kept-next, kept-begun}
 
 -- Each job at work at one of the 16 places, and each that finished, was released.
 pub record Sourced (s : State) (taken : List Taken) (finishes : List Finish) : Type 0 where

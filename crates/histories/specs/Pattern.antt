@@ -6,7 +6,7 @@ use mathlib.Core.Bool.{Bool, cond, _&&_}
 use lib.Dec.{leb, eqb}
 use Rattle.theory.specs.Rules.{Rules}
 use Rattle.theory.specs.Pattern.{offset}
-use Rattle.scheduler.specs.History.{Call, release, step}
+use Rattle.histories.specs.History.{Call, release, step}
 
 -- The task at place j is due at tick t: t is its offset (H for the first task, 1 for the others) or periods after it.
 unfoldable pub dueAt : Rules → ℕ → ℕ → Bool

@@ -4,10 +4,10 @@ use Prim.Native.Nat.{ℕ, _≤_, _<_}
 use mathlib.Core.Path.{_≡_}
 use mathlib.Core.List.{List}
 use Rattle.base.specs.List.{In}
 use Rattle.scheduler.specs.declared.Job.the-variants.{Working}
 use Rattle.scheduler.specs.declared.State.{State}
 use Rattle.scheduler.specs.States.{entryIn}
-use Rattle.scheduler.specs.History.{Taken, Finish, Past}
+use Rattle.histories.specs.History.{Taken, Finish, Past}
 
 -- `finishAt` is the finish, at clock t, of the very job of an accepted release.
 abbrev pub finishAt : Taken → ℕ → Finish

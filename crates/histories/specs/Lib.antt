@@ -1,0 +1,6 @@
+-- `History` defines lists of calls and what they make of a start.
+pub mod History
+-- `Jobs` says where the job of an accepted release stands.
+pub mod Jobs
+-- `Pattern` gives the worst pattern as a list of calls.
+pub mod Pattern
