@@ -2,8 +2,8 @@
 use Prim.Native.Nat.{ℕ, zero, suc, _+_, _*_}
 use mathlib.Core.List.{List}
 use Rattle.scheduler.specs.declared.State.{State}
-use Rattle.scheduler.specs.declared.Tally.{Tally}
-use Rattle.scheduler.specs.States.{noTicks}
+use Rattle.decisions.specs.declared.Tally.{Tally}
+use Rattle.decisions.specs.Fits.{noTicks}
 use Rattle.scheduler.specs.Steps.{stepOf}
 use Rattle.node.specs.Calls.{BothLeft, stepOn}
 

@@ -3,8 +3,8 @@
 ghost use mathlib.Core.Path.{_≡_};
 ghost use Rattle.scheduler.specs.Starts.{startOf};
 ghost use Rattle.bench_steps.specs.ManySteps.{stepsOn, stepsOf, counted};
+use decisions::Tally;
 use node::node_step;
-use scheduler::Tally;
 use scheduler::start;
 use scheduler::step_on;
 

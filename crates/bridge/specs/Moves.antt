@@ -14,17 +14,19 @@ use Rattle.theory.proofs.System.{worked, Allowed, Idle, Released, Slotted, Ran,
 use Rattle.table.specs.Sound.{places}
 use Rattle.table.specs.declared.Record.{Record}
 use Rattle.table.specs.Set.{rulesFrom}
-use Rattle.scheduler.specs.declared.Job.{Job}
-use Rattle.scheduler.specs.declared.Job.the-variants.{Resting, Working}
-use Rattle.scheduler.specs.declared.Last.{Last}
-use Rattle.scheduler.specs.declared.Last.the-variants.{Never, At}
-use Rattle.scheduler.specs.declared.Entry.{Entry}
+use Rattle.decisions.specs.declared.Job.{Job}
+use Rattle.decisions.specs.declared.Job.the-variants.{Resting, Working}
+use Rattle.decisions.specs.declared.Last.{Last}
+use Rattle.decisions.specs.declared.Last.the-variants.{Never, At}
+use Rattle.decisions.specs.declared.Entry.{Entry}
 use Rattle.scheduler.specs.declared.State.{State}
-use Rattle.scheduler.specs.States.{clockEnd, noEntry, entryIn, headOf, aged}
+use Rattle.decisions.specs.Fits.{clockEnd, noEntry}
+use Rattle.scheduler.specs.States.{entryIn, headOf, aged}
 use Rattle.scheduler.specs.Lawful.{Lawful-state}
 use Rattle.scheduler.specs.Releases.{releasedState, releasedEntry}
-use Rattle.scheduler.specs.Steps.{mayRun, firstReady, workedJob, workedOf, afterRun}
-use Rattle.scheduler.specs.declared.Head.{Head}
+use Rattle.decisions.specs.Ticks.{mayRun, workedJob, workedOf}
+use Rattle.scheduler.specs.Steps.{firstReady, afterRun}
+use Rattle.decisions.specs.declared.Head.{Head}
 use Rattle.scheduler.proofs.ReleaseLaws.{Free-task, release-place}
 use Rattle.scheduler.proofs.PlaceLaws.{Sized, One-place}
 use Rattle.scheduler.proofs.TickLaws.{first-says, run-place}

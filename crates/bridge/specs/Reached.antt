@@ -26,9 +26,10 @@ use Rattle.table.proofs.SetLaws.{read-set, works-small}
 use Rattle.table.proofs.SetLaws as set
 use Rattle.table.specs.Times.{waiting}
 use Rattle.admission.specs.Figure.{limit, figure}
-use Rattle.scheduler.specs.declared.Job.{Job}
-use Rattle.scheduler.specs.declared.Job.the-variants.{Resting, Working}
-use Rattle.scheduler.specs.States.{clockEnd, entryIn}
+use Rattle.decisions.specs.declared.Job.{Job}
+use Rattle.decisions.specs.declared.Job.the-variants.{Resting, Working}
+use Rattle.decisions.specs.Fits.{clockEnd}
+use Rattle.scheduler.specs.States.{entryIn}
 use Rattle.scheduler.specs.Starts.{freshState, Given}
 use Rattle.histories.specs.History.{Call, step, Taken, Past, next, after, begun, At-work}
 use Rattle.histories.specs.Jobs.{Standing, done, going, Finishes-at}

@@ -9,8 +9,8 @@ use Rattle.theory.proofs.TailLaws.{here, tail-still}
 use Rattle.table.specs.Set.{rulesFrom}
 use Rattle.table.proofs.SetLaws.{set-sound}
 use Rattle.scheduler.specs.declared.State.{State}
-use Rattle.scheduler.specs.declared.Tally.{Tally}
-use Rattle.scheduler.specs.declared.Tick.the-variants.{Run, Tail}
+use Rattle.decisions.specs.declared.Tally.{Tally}
+use Rattle.decisions.specs.declared.Tick.the-variants.{Run, Tail}
 use Rattle.scheduler.specs.declared.Ticked.the-variants as ticked
 use Rattle.scheduler.specs.States.{recordIn}
 use Rattle.scheduler.specs.Lawful.{Lawful-state}

@@ -14,18 +14,20 @@ use Rattle.table.specs.Sound.{places, readOf}
 use Rattle.table.specs.declared.Record.{Record}
 use Rattle.table.specs.Set.{rulesFrom, rulesOf}
 use Rattle.table.proofs.SetLaws.{read-set, set-sound}
-use Rattle.scheduler.specs.declared.Job.the-variants.{Resting, Working}
-use Rattle.scheduler.specs.declared.Last.the-variants.{Never}
-use Rattle.scheduler.specs.declared.Entry.{Entry}
+use Rattle.decisions.specs.declared.Job.the-variants.{Resting, Working}
+use Rattle.decisions.specs.declared.Last.the-variants.{Never}
+use Rattle.decisions.specs.declared.Entry.{Entry}
 use Rattle.scheduler.specs.declared.State.{State}
-use Rattle.scheduler.specs.declared.Tally.{Tally}
-use Rattle.scheduler.specs.declared.Answer.{Answer}
-use Rattle.scheduler.specs.declared.Answer.the-variants.{Accepted, Refused}
-use Rattle.scheduler.specs.States.{clockEnd, entryIn, aged}
+use Rattle.decisions.specs.declared.Tally.{Tally}
+use Rattle.decisions.specs.declared.Answer.{Answer}
+use Rattle.decisions.specs.declared.Answer.the-variants.{Accepted, Refused}
+use Rattle.decisions.specs.Fits.{clockEnd}
+use Rattle.scheduler.specs.States.{entryIn, aged}
 use Rattle.scheduler.specs.Lawful.{Lawful-state}
 use Rattle.scheduler.specs.Starts.{freshState, Given}
 use Rattle.scheduler.specs.Releases.{releaseAnswer, releasedState, releaseOf, releasedEntry}
-use Rattle.scheduler.specs.Steps.{firstReady, workedOf, tickOf, stepOf, afterRun, afterTick}
+use Rattle.decisions.specs.Ticks.{workedOf}
+use Rattle.scheduler.specs.Steps.{firstReady, tickOf, stepOf, afterRun, afterTick}
 use Rattle.histories.specs.History.{Call, release, step, lend, Past, next, after, begun}
 use Rattle.scheduler.proofs.ReleaseLaws.{accepted-says, release-place}
 use Rattle.scheduler.proofs.PlaceLaws.{Sized, One-place, task-stays, keeps-lawful}

@@ -6,14 +6,15 @@ use native.Mathlib.Omega.{arith}
 use Rattle.theory.proofs.System.{Ran, Tailed}
 use Rattle.table.specs.declared.Record.{Record}
 use Rattle.table.specs.Set.{rulesFrom}
-use Rattle.scheduler.specs.declared.Job.the-variants.{Working}
+use Rattle.decisions.specs.declared.Job.the-variants.{Working}
 use Rattle.scheduler.specs.declared.State.{State}
-use Rattle.scheduler.specs.declared.Tally.{Tally}
-use Rattle.scheduler.specs.declared.Tick.{Tick}
-use Rattle.scheduler.specs.declared.Tick.the-variants.{Run, Slot, Tail}
+use Rattle.decisions.specs.declared.Tally.{Tally}
+use Rattle.decisions.specs.declared.Tick.{Tick}
+use Rattle.decisions.specs.declared.Tick.the-variants.{Run, Slot, Tail}
 use Rattle.scheduler.specs.declared.Ticked.the-variants as ticked
 use Rattle.scheduler.specs.declared.Moved.{Moved}
-use Rattle.scheduler.specs.States.{clockEnd, headOf, entryIn}
+use Rattle.decisions.specs.Fits.{clockEnd}
+use Rattle.scheduler.specs.States.{headOf, entryIn}
 use Rattle.scheduler.specs.Lawful.{Lawful-state}
 use Rattle.scheduler.specs.Steps.{firstReady, tickOf, afterRun, afterTick, stepOf}
 use Rattle.scheduler.proofs.StateLaws.{fits-says}

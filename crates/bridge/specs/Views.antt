@@ -6,10 +6,10 @@ use Rattle.theory.proofs.System as theory
 use Rattle.table.specs.declared.Record.{Record}
 use Rattle.table.specs.Set.{rulesFrom}
 use Rattle.table.proofs.SetLaws.{work-is, period-is}
-use Rattle.scheduler.specs.declared.Job.{Job}
-use Rattle.scheduler.specs.declared.Job.the-variants.{Resting, Working}
-use Rattle.scheduler.specs.declared.Last.{Last}
-use Rattle.scheduler.specs.declared.Last.the-variants.{Never, At}
+use Rattle.decisions.specs.declared.Job.{Job}
+use Rattle.decisions.specs.declared.Job.the-variants.{Resting, Working}
+use Rattle.decisions.specs.declared.Last.{Last}
+use Rattle.decisions.specs.declared.Last.the-variants.{Never, At}
 use Rattle.scheduler.specs.declared.State.{State}
 use Rattle.scheduler.specs.States.{entryIn, recordIn}
 use Rattle.scheduler.proofs.StateLaws.{record-of}

@@ -26,12 +26,13 @@ use Rattle.table.specs.Sound.{readOf}
 use Rattle.table.specs.Set.{rulesOf}
 use Rattle.table.proofs.TimesLaws.{says-time}
 use Rattle.table.proofs.SetLaws.{read-set, first-multiple}
-use Rattle.scheduler.specs.declared.Last.{Last}
-use Rattle.scheduler.specs.declared.Last.the-variants.{Never, At}
+use Rattle.decisions.specs.declared.Last.{Last}
+use Rattle.decisions.specs.declared.Last.the-variants.{Never, At}
 use Rattle.scheduler.specs.declared.State.{State}
 use Rattle.scheduler.specs.declared.Moved.{Moved}
-use Rattle.scheduler.specs.declared.Answer.the-variants.{Accepted}
-use Rattle.scheduler.specs.States.{clockEnd, noEntry, entryIn}
+use Rattle.decisions.specs.declared.Answer.the-variants.{Accepted}
+use Rattle.decisions.specs.Fits.{clockEnd, noEntry}
+use Rattle.scheduler.specs.States.{entryIn}
 use Rattle.scheduler.specs.Starts.{freshState, Given}
 use Rattle.scheduler.specs.Releases.{releasedState, releaseOf}
 use Rattle.scheduler.specs.Steps.{tickOf, stepOf, afterTick}

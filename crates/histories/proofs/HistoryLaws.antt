@@ -16,20 +16,22 @@ use Rattle.base.proofs.SumLaws.{sumTo-zero, plus-same, plus-other, sum-plus, su
 use Rattle.base.proofs.FoldLaws.{folded-keeps}
 use Rattle.table.specs.declared.Reading.the-variants as read
 use Rattle.table.specs.Sound.{places, readOf}
-use Rattle.scheduler.specs.declared.Job.{Job}
-use Rattle.scheduler.specs.declared.Job.the-variants.{Resting, Working}
-use Rattle.scheduler.specs.declared.Entry.{Entry}
-use Rattle.scheduler.specs.declared.Head.{Head}
+use Rattle.decisions.specs.declared.Job.{Job}
+use Rattle.decisions.specs.declared.Job.the-variants.{Resting, Working}
+use Rattle.decisions.specs.declared.Entry.{Entry}
+use Rattle.decisions.specs.declared.Head.{Head}
 use Rattle.scheduler.specs.declared.State.{State}
-use Rattle.scheduler.specs.declared.Tally.{Tally}
+use Rattle.decisions.specs.declared.Tally.{Tally}
 use Rattle.scheduler.specs.declared.Ticked.the-variants as ticked
-use Rattle.scheduler.specs.declared.Answer.{Answer}
-use Rattle.scheduler.specs.declared.Answer.the-variants.{Accepted, Refused}
-use Rattle.scheduler.specs.States.{clockEnd, headOf, entryIn, total, stateFits, tallyFits}
+use Rattle.decisions.specs.declared.Answer.{Answer}
+use Rattle.decisions.specs.declared.Answer.the-variants.{Accepted, Refused}
+use Rattle.decisions.specs.Fits.{clockEnd, total, tallyFits}
+use Rattle.scheduler.specs.States.{headOf, entryIn, stateFits}
 use Rattle.scheduler.specs.Lawful.{Lawful-state}
 use Rattle.scheduler.specs.Starts.{Given, freshState}
 use Rattle.scheduler.specs.Releases.{releaseAnswer, releasedEntry, releasedState}
-use Rattle.scheduler.specs.Steps.{mayRun, firstReady, workedJob, workedOf, tickOf, afterRun, afterTick, countOf, raised, stepOf}
+use Rattle.decisions.specs.Ticks.{mayRun, workedJob, workedOf, countOf}
+use Rattle.scheduler.specs.Steps.{firstReady, tickOf, afterRun, afterTick, raised, stepOf}
 use Rattle.histories.specs.History.{Call, release, step, lend, Own, Past, ran, next, after, begun, workLeft, leftIn}
 use Rattle.scheduler.proofs.StateLaws.{says-fits}
 use Rattle.scheduler.proofs.PlaceLaws.{Sized, One-place, Keeps, keeps-lawful}

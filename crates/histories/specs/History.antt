@@ -7,17 +7,18 @@ use mathlib.Core.Bool.{cond}
 use lib.Dec.{leb}
 use Rattle.base.specs.Sum.{plusAt}
 use Rattle.base.specs.Fold.{folded}
-use Rattle.scheduler.specs.declared.Job.{Job}
-use Rattle.scheduler.specs.declared.Job.the-variants.{Resting, Working}
+use Rattle.decisions.specs.declared.Job.{Job}
+use Rattle.decisions.specs.declared.Job.the-variants.{Resting, Working}
 use Rattle.scheduler.specs.declared.State.{State}
-use Rattle.scheduler.specs.declared.Tally.{Tally}
-use Rattle.scheduler.specs.declared.Tick.{Tick}
-use Rattle.scheduler.specs.declared.Tick.the-variants.{Run, Slot, Tail}
+use Rattle.decisions.specs.declared.Tally.{Tally}
+use Rattle.decisions.specs.declared.Tick.{Tick}
+use Rattle.decisions.specs.declared.Tick.the-variants.{Run, Slot, Tail}
 use Rattle.scheduler.specs.declared.Ticked.{Ticked}
 use Rattle.scheduler.specs.declared.Ticked.the-variants as ticked
-use Rattle.scheduler.specs.declared.Answer.{Answer}
-use Rattle.scheduler.specs.declared.Answer.the-variants.{Accepted, Refused}
-use Rattle.scheduler.specs.States.{entryIn, noTicks}
+use Rattle.decisions.specs.declared.Answer.{Answer}
+use Rattle.decisions.specs.declared.Answer.the-variants.{Accepted, Refused}
+use Rattle.decisions.specs.Fits.{noTicks}
+use Rattle.scheduler.specs.States.{entryIn}
 use Rattle.scheduler.specs.Starts.{Given, startOf}
 use Rattle.scheduler.specs.Releases.{releaseOf}
 use Rattle.scheduler.specs.Steps.{stepOf}

@@ -4,7 +4,7 @@ use Prim.Native.Nat.{ℕ, _≤_, _<_}
 use mathlib.Core.Path.{_≡_}
 use mathlib.Core.List.{List}
 use Rattle.base.specs.List.{In}
-use Rattle.scheduler.specs.declared.Job.the-variants.{Working}
+use Rattle.decisions.specs.declared.Job.the-variants.{Working}
 use Rattle.scheduler.specs.declared.State.{State}
 use Rattle.scheduler.specs.States.{entryIn}
 use Rattle.histories.specs.History.{Taken, Finish, Past}

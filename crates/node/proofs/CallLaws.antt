@@ -20,16 +20,18 @@ use Rattle.table.specs.Sound.{places, recordFits, sleepFits}
 use Rattle.admission.specs.declared.Answer.{Answer as Judgement}
 use Rattle.admission.specs.declared.Answer.the-variants as judgement
 use Rattle.admission.specs.Verdicts.{admitOf}
-use Rattle.scheduler.specs.declared.Answer.{Answer}
-use Rattle.scheduler.specs.declared.Answer.the-variants.{Accepted, Refused}
-use Rattle.scheduler.specs.declared.Entry.{Entry}
-use Rattle.scheduler.specs.declared.Head.{Head}
-use Rattle.scheduler.specs.declared.Tick.{Tick}
-use Rattle.scheduler.specs.declared.Tick.the-variants.{Run, Slot, Tail}
-use Rattle.scheduler.specs.States.{clockEnd, headOf, entryIn, recordIn, periodBefore, headFits, placesFit, stateFits}
+use Rattle.decisions.specs.declared.Answer.{Answer}
+use Rattle.decisions.specs.declared.Answer.the-variants.{Accepted, Refused}
+use Rattle.decisions.specs.declared.Entry.{Entry}
+use Rattle.decisions.specs.declared.Head.{Head}
+use Rattle.decisions.specs.declared.Tick.{Tick}
+use Rattle.decisions.specs.declared.Tick.the-variants.{Run, Slot, Tail}
+use Rattle.decisions.specs.Fits.{clockEnd, headFits}
+use Rattle.scheduler.specs.States.{headOf, entryIn, recordIn, periodBefore, placesFit, stateFits}
 use Rattle.scheduler.specs.Starts.{startOf}
-use Rattle.scheduler.specs.Releases.{mayRelease, releaseAnswer, releasedState}
-use Rattle.scheduler.specs.Steps.{tickOf, made, mayStep, stepOf}
+use Rattle.decisions.specs.Asks.{mayRelease, mayStep}
+use Rattle.scheduler.specs.Releases.{releaseAnswer, releasedState}
+use Rattle.scheduler.specs.Steps.{tickOf, made, stepOf}
 use Rattle.node.specs.Layout.{headSize, stateSize, tallySize, verdictSize, placeStart, clockAt, wordIn, recordFrom, stateWords, entriesIn, stateIn, tallyIn, anyWord, placeEncoded, encoded}
 use Rattle.node.specs.Calls.{packed, toldAnswer, tickAnswer, StateLeft, BothLeft, startOn, admitOn, releaseOn, movedOn, stepOn, Headed, wordsFit, placeFitsIn, placesFitIn, sparesBlank}
 use Rattle.node.proofs.LayoutLaws.{entry-is, spare-blank, written-back, tally-written-back}

@@ -6,9 +6,9 @@ use native.Mathlib.Nat.{mul-le-mul}
 use native.Mathlib.Omega.{arith}
 use lib.Dec.{ltb}
 use borrow.Author.Tests.{ltb-false}
-use Rattle.scheduler.specs.declared.Tally.{Tally}
-use Rattle.scheduler.specs.States.{clockEnd, total}
-use Rattle.scheduler.specs.Energies.{powerMost, energyOf}
+use Rattle.decisions.specs.declared.Tally.{Tally}
+use Rattle.decisions.specs.Fits.{clockEnd, total}
+use Rattle.decisions.specs.Energies.{powerMost, energyOf}
 
 -- The energy of a tally is small: it is at most 3,000,000,000,000,000 nanojoules.
 pub energy-small : (t : Tally) (run sleep : ℕ) → energyOf t run sleep .nanojoules ≤ 3000000000000000

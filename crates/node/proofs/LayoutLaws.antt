@@ -18,17 +18,19 @@ use Rattle.base.specs.List.{listFrom}
 use Rattle.table.specs.declared.Record.{Record}
 use Rattle.table.specs.Sound.{places}
 use Rattle.admission.specs.declared.Verdict.{Verdict}
-use Rattle.scheduler.specs.declared.Job.{Job}
-use Rattle.scheduler.specs.declared.Job.the-variants.{Resting, Working}
-use Rattle.scheduler.specs.declared.Last.{Last}
-use Rattle.scheduler.specs.declared.Last.the-variants.{Never, At}
-use Rattle.scheduler.specs.declared.Entry.{Entry}
+use Rattle.decisions.specs.declared.Job.{Job}
+use Rattle.decisions.specs.declared.Job.the-variants.{Resting, Working}
+use Rattle.decisions.specs.declared.Last.{Last}
+use Rattle.decisions.specs.declared.Last.the-variants.{Never, At}
+use Rattle.decisions.specs.declared.Entry.{Entry}
 use Rattle.scheduler.specs.declared.State.{State}
-use Rattle.scheduler.specs.declared.Count.{Count}
-use Rattle.scheduler.specs.declared.Count.the-variants.{Runs, Slots, Tails}
-use Rattle.scheduler.specs.States.{noEntry, entryIn, withEntry, aged, zeroed, restsNever, spareFits, withEntries}
+use Rattle.decisions.specs.declared.Count.{Count}
+use Rattle.decisions.specs.declared.Count.the-variants.{Runs, Slots, Tails}
+use Rattle.decisions.specs.Fits.{noEntry, zeroed, restsNever, spareFits}
+use Rattle.scheduler.specs.States.{entryIn, withEntry, aged, withEntries}
 use Rattle.scheduler.specs.Releases.{releasedEntry}
-use Rattle.scheduler.specs.Steps.{workedOf, afterRun, raised}
+use Rattle.decisions.specs.Ticks.{workedOf}
+use Rattle.scheduler.specs.Steps.{afterRun, raised}
 use Rattle.base.proofs.EveryLaws.{every-says, says-every}
 use Rattle.node.specs.Words.{puts}
 use Rattle.node.specs.Layout.{headSize, clockAt, runAt, slotAt, tailAt, labelAt, workAt, periodAt, reservedAt, jobAt, releaseAt, leftAt, lastAt, tickAt, placeSize, stateSize, placeStart, tallySize, recordWords, jobWords, lastWords, entryWords, placesWords, headWords, stateWords, tallyWords, verdictSize, byPlace, verdictWords, wordIn, recordFrom, jobFrom, lastFrom, entryFrom, entriesIn, stateIn, tallyIn, anyWord, kindEncoded, placeEncoded, encoded}

@@ -14,22 +14,23 @@ use Rattle.admission.specs.declared.Verdict.{Verdict}
 use Rattle.admission.specs.declared.Answer.{Answer as Judgement}
 use Rattle.admission.specs.declared.Answer.the-variants as judgement
 use Rattle.admission.specs.Verdicts.{admitOf}
-use Rattle.scheduler.specs.declared.Answer.{Answer}
-use Rattle.scheduler.specs.declared.Answer.the-variants.{Accepted, Refused}
-use Rattle.scheduler.specs.declared.Head.{Head}
-use Rattle.scheduler.specs.declared.Tick.{Tick}
-use Rattle.scheduler.specs.declared.Tick.the-variants.{Run, Slot, Tail}
+use Rattle.decisions.specs.declared.Answer.{Answer}
+use Rattle.decisions.specs.declared.Answer.the-variants.{Accepted, Refused}
+use Rattle.decisions.specs.declared.Head.{Head}
+use Rattle.decisions.specs.declared.Tick.{Tick}
+use Rattle.decisions.specs.declared.Tick.the-variants.{Run, Slot, Tail}
 use Rattle.scheduler.specs.declared.Ticked.{Ticked}
 use Rattle.scheduler.specs.declared.Ticked.the-variants as ticked
 use Rattle.scheduler.specs.declared.Started.{Started}
 use Rattle.scheduler.specs.declared.Released.{Released}
 use Rattle.scheduler.specs.declared.Moved.{Moved}
-use Rattle.scheduler.specs.declared.EnergyReading.{EnergyReading}
-use Rattle.scheduler.specs.States.{noEntry, headOf, stateFits, periodBefore, placeFits}
+use Rattle.decisions.specs.declared.EnergyReading.{EnergyReading}
+use Rattle.decisions.specs.Fits.{noEntry, placeFits}
+use Rattle.scheduler.specs.States.{headOf, stateFits, periodBefore}
 use Rattle.scheduler.specs.Starts.{startOf}
 use Rattle.scheduler.specs.Releases.{releaseOf}
 use Rattle.scheduler.specs.Steps.{stepOf}
-use Rattle.scheduler.specs.Energies.{energyOf}
+use Rattle.decisions.specs.Energies.{energyOf}
 use Rattle.node.specs.Layout.{stateSize, verdictSize, placeStart, stateWords, tallyWords, verdictWords, anyWord, placeEncoded, entriesIn, stateIn, tallyIn, encoded, tallyEncoded}
 
 -- AN ANSWER is one number: a refusal's number, or 0, in its low byte, and two parts above it.

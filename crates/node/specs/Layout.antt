@@ -11,14 +11,14 @@ use Rattle.base.specs.List.{listFrom}
 use Rattle.table.specs.declared.Record.{Record}
 use Rattle.table.specs.Sound.{places}
 use Rattle.admission.specs.declared.Verdict.{Verdict}
-use Rattle.scheduler.specs.declared.Job.{Job}
-use Rattle.scheduler.specs.declared.Job.the-variants.{Resting, Working}
-use Rattle.scheduler.specs.declared.Last.{Last}
-use Rattle.scheduler.specs.declared.Last.the-variants.{Never, At}
-use Rattle.scheduler.specs.declared.Entry.{Entry}
+use Rattle.decisions.specs.declared.Job.{Job}
+use Rattle.decisions.specs.declared.Job.the-variants.{Resting, Working}
+use Rattle.decisions.specs.declared.Last.{Last}
+use Rattle.decisions.specs.declared.Last.the-variants.{Never, At}
+use Rattle.decisions.specs.declared.Entry.{Entry}
 use Rattle.scheduler.specs.declared.State.{State}
-use Rattle.scheduler.specs.declared.Tally.{Tally}
-use Rattle.scheduler.specs.States.{noEntry}
+use Rattle.decisions.specs.declared.Tally.{Tally}
+use Rattle.decisions.specs.Fits.{noEntry}
 
 -- These say HOW MANY WORDS stand before the first place, and how many a place, a state, a tally and a verdict have.
 abbrev pub headSize : ℕ

@@ -18,17 +18,17 @@ use Rattle.admission.specs.declared.Answer.the-variants as verdict
 use Rattle.admission.specs.Verdicts.{verdict, zeros, admitOf}
 use Rattle.admission.proofs.RefusedLaws as admission
 use Rattle.scheduler.specs.declared.State.{State}
-use Rattle.scheduler.specs.declared.Tally.{Tally}
-use Rattle.scheduler.specs.declared.Tick.{Tick}
+use Rattle.decisions.specs.declared.Tally.{Tally}
+use Rattle.decisions.specs.declared.Tick.{Tick}
 use Rattle.scheduler.specs.declared.Ticked.the-variants as ticked
-use Rattle.scheduler.specs.declared.Answer.the-variants.{Accepted, Refused}
-use Rattle.scheduler.specs.States.{clockEnd, total}
+use Rattle.decisions.specs.declared.Answer.the-variants.{Accepted, Refused}
+use Rattle.decisions.specs.Fits.{clockEnd, total}
 use Rattle.scheduler.specs.Lawful.{Lawful-state}
 use Rattle.scheduler.specs.Starts.{Given, startOf}
 use Rattle.scheduler.specs.Fresh.{Fresh}
 use Rattle.scheduler.specs.Releases.{releaseOf}
 use Rattle.scheduler.specs.Steps.{tickOf, stepOf}
-use Rattle.scheduler.specs.Energies.{powerMost, energyOf}
+use Rattle.decisions.specs.Energies.{powerMost, energyOf}
 use Rattle.scheduler.specs.Applies.{Releasable, Rules-kept}
 use Rattle.histories.specs.History.{Own, Call, history}
 use Rattle.histories.proofs.HistoryLaws.{history-kept, history-counted}

@@ -17,19 +17,20 @@ use Rattle.admission.specs.Verdicts.{admitOf}
 use Rattle.admission.proofs.RefusedLaws.{admission-refused-exactly}
 use Rattle.admission.proofs as admission
 use Rattle.scheduler.specs.declared.State.{State}
-use Rattle.scheduler.specs.declared.Tally.{Tally}
+use Rattle.decisions.specs.declared.Tally.{Tally}
 use Rattle.scheduler.specs.declared.Ticked.the-variants as ticked
-use Rattle.scheduler.specs.declared.Answer.the-variants.{Refused}
+use Rattle.decisions.specs.declared.Answer.the-variants.{Refused}
 use Rattle.scheduler.specs.Starts.{noState, startOf, Given}
 use Rattle.scheduler.specs.Releases.{releaseOf}
 use Rattle.scheduler.specs.Steps.{stepOf}
-use Rattle.scheduler.specs.Energies.{energyOf}
+use Rattle.decisions.specs.Energies.{energyOf}
 use Rattle.scheduler.specs.Applies.{Release-applies, Step-applies, Energy-applies}
 use Rattle.scheduler.proofs.ReleaseLaws.{release-refused}
 use Rattle.scheduler.proofs.StepLaws.{step-refused}
 use Rattle.scheduler.proofs.StartLaws.{no-state-refused}
 use Rattle.scheduler.proofs.RefusalLaws.{energy-refused}
 use Rattle.scheduler.proofs.AnswerLaws as laws
+use Rattle.decisions.proofs as decisions
 use Rattle.scheduler.proofs as scheduler
 use Rattle.node.specs.Calls.{admitOn, startOn, releaseOn, stepOn}
 use Rattle.node.proofs.CallLaws as on
@@ -45,7 +46,7 @@ pub record Any-input : Type 0 where
   pub any-table-may-be-started : Settles scheduler.start.ended scheduler.start.Reads.Asked scheduler.start.Reads.Learnt
   pub any-release-may-be-made : Settles scheduler.release.ended scheduler.release.Reads.Asked scheduler.release.Reads.Learnt
   pub any-step-may-be-made : Settles scheduler.step.ended step-asked step-learnt
-  pub any-tally-may-be-read : Settles scheduler.energy.ended scheduler.energy.Reads.Asked scheduler.energy.Reads.Learnt
+  pub any-tally-may-be-read : Settles decisions.energy.ended decisions.energy.Reads.Asked decisions.energy.Reads.Learnt
   -- The same of the calls on words.
   pub any-words-may-be-admitted : Settles node.node_admit.ended node.node_admit.Reads.Asked node.node_admit.Reads.Learnt
   pub any-words-may-be-started : Settles node.node_start.ended node.node_start.Reads.Asked node.node_start.Reads.Learnt

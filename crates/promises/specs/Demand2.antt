@@ -22,17 +22,18 @@ use Rattle.admission.specs.Says.{Has-window, Judged}
 use Rattle.admission.specs.Verdicts.{admitOf}
 use Rattle.admission.proofs.AdmitLaws as laws
 use Rattle.scheduler.specs.declared.State.{State}
-use Rattle.scheduler.specs.declared.Tally.{Tally}
-use Rattle.scheduler.specs.declared.Tick.{Tick}
-use Rattle.scheduler.specs.declared.Tick.the-variants.{Run, Slot, Tail}
+use Rattle.decisions.specs.declared.Tally.{Tally}
+use Rattle.decisions.specs.declared.Tick.{Tick}
+use Rattle.decisions.specs.declared.Tick.the-variants.{Run, Slot, Tail}
 use Rattle.scheduler.specs.declared.Ticked.the-variants as ticked
-use Rattle.scheduler.specs.declared.Answer.the-variants.{Accepted}
-use Rattle.scheduler.specs.States.{clockEnd, recordIn, total}
+use Rattle.decisions.specs.declared.Answer.the-variants.{Accepted}
+use Rattle.decisions.specs.Fits.{clockEnd, total}
+use Rattle.scheduler.specs.States.{recordIn}
 use Rattle.scheduler.specs.Applies.{Rules-kept}
 use Rattle.scheduler.specs.Starts.{freshState, Given}
 use Rattle.scheduler.specs.Steps.{tickOf, made, stepOf}
 use Rattle.scheduler.specs.MayRun.{May-run, First-to-run}
-use Rattle.scheduler.specs.Energies.{energyOf}
+use Rattle.decisions.specs.Energies.{energyOf}
 use Rattle.histories.specs.History.{Own, Call, after, begun, history, leftIn}
 use Rattle.scheduler.proofs.StepLaws.{step-made}
 use Rattle.scheduler.proofs.MayRunLaws as words

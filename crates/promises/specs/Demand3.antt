@@ -30,12 +30,13 @@ use Rattle.admission.specs.Figure.{limit, figure}
 use Rattle.admission.specs.Says.{Has-window, Rows, Judged, admitted, refused}
 use Rattle.admission.specs.Verdicts.{admitOf}
 use Rattle.admission.proofs.AdmitLaws.{admit-says, refused-exactly}
-use Rattle.scheduler.specs.declared.Job.the-variants.{Resting, Working}
+use Rattle.decisions.specs.declared.Job.the-variants.{Resting, Working}
 use Rattle.scheduler.specs.declared.State.{State}
-use Rattle.scheduler.specs.declared.Tally.{Tally}
-use Rattle.scheduler.specs.declared.Tick.the-variants.{Run, Tail}
+use Rattle.decisions.specs.declared.Tally.{Tally}
+use Rattle.decisions.specs.declared.Tick.the-variants.{Run, Tail}
 use Rattle.scheduler.specs.declared.Ticked.the-variants as ticked
-use Rattle.scheduler.specs.States.{clockEnd, noEntry, entryIn}
+use Rattle.decisions.specs.Fits.{clockEnd, noEntry}
+use Rattle.scheduler.specs.States.{entryIn}
 use Rattle.scheduler.specs.Starts.{freshState, startOf, Given}
 use Rattle.scheduler.specs.Steps.{stepOf}
 use Rattle.histories.specs.History.{Past, Call, Taken, Finish, after, begun, history, At-work}

@@ -19,9 +19,10 @@ use Rattle.table.specs.Times.{releaseTime, waiting}
 use Rattle.table.specs.Sound.{askRecords, askOrder, askSleep, readOf}
 use Rattle.table.specs.Set.{rulesOf}
 use Rattle.admission.specs.Verdicts.{walkFrom}
-use Rattle.scheduler.specs.declared.Job.the-variants.{Working}
+use Rattle.decisions.specs.declared.Job.the-variants.{Working}
 use Rattle.scheduler.specs.States.{entryIn, recordIn, periodBefore, stateFits, entriesOf}
-use Rattle.scheduler.specs.Releases.{askDemand, askTask, mayRelease, releaseAnswer}
+use Rattle.decisions.specs.Asks.{askDemand, askTask, mayRelease}
+use Rattle.scheduler.specs.Releases.{releaseAnswer}
 use Rattle.scheduler.specs.Steps.{stepOf}
 use Rattle.histories.specs.History.{Call, release, lend, Taken, Finish, next, history}
 use Rattle.histories.specs.Jobs.{Finished, Followed, Was-released, Finishes-at}

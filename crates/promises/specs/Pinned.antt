@@ -12,12 +12,12 @@ use Rattle.table.specs.Refusals.{toldOf}
 use Rattle.table.specs.Sound.{places}
 use Rattle.admission.specs.declared.Answer.the-variants.{Admitted}
 use Rattle.admission.specs.Verdicts.{verdict, zeros}
-use Rattle.scheduler.specs.declared.Job.the-variants as job
-use Rattle.scheduler.specs.declared.Last.the-variants as last
-use Rattle.scheduler.specs.declared.Entry.{Entry}
+use Rattle.decisions.specs.declared.Job.the-variants as job
+use Rattle.decisions.specs.declared.Last.the-variants as last
+use Rattle.decisions.specs.declared.Entry.{Entry}
 use Rattle.scheduler.specs.declared.State.{State}
-use Rattle.scheduler.specs.declared.Tick.the-variants.{Run, Slot, Tail}
-use Rattle.scheduler.specs.States.{noEntry}
+use Rattle.decisions.specs.declared.Tick.the-variants.{Run, Slot, Tail}
+use Rattle.decisions.specs.Fits.{noEntry}
 use Rattle.node.specs.Layout.{placesWords, stateWords, tallyWords, verdictWords}
 use Rattle.node.specs.Calls.{packed, toldAnswer, tickAnswer, energyOn}
 

@@ -12,8 +12,8 @@ use Rattle.base.proofs.FoldLaws.{folded-append}
 use Rattle.table.specs.declared.Reading.the-variants as read
 use Rattle.table.specs.Sound.{places, readOf}
 use Rattle.scheduler.specs.declared.State.{State}
-use Rattle.scheduler.specs.declared.Tally.{Tally}
-use Rattle.scheduler.specs.States.{noTicks}
+use Rattle.decisions.specs.declared.Tally.{Tally}
+use Rattle.decisions.specs.Fits.{noTicks}
 use Rattle.scheduler.specs.Starts.{Given, startOf, freshState}
 use Rattle.scheduler.specs.Releases.{releaseOf}
 use Rattle.scheduler.specs.Steps.{stepOf}

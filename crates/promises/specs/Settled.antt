@@ -14,6 +14,7 @@ use borrow.Fn.Claims.{AllOf}
 use borrow.Fn.Read.{all-models, no-know, r-top, r-last}
 use Rattle.table.proofs as table
 use Rattle.admission.proofs as admission
+use Rattle.decisions.proofs as decisions
 use Rattle.scheduler.proofs as scheduler
 use Rattle.texts.proofs as texts
 use Rattle.node.proofs as node
@@ -95,40 +96,40 @@ step κs a = settled (λ x v p. (p .0, λ i. (tt, (p .1 i, tt))))
 step-on : Settles scheduler.step_on.ended scheduler.step_on.Reads.Asked scheduler.step_on.Reads.Learnt
 step-on κs a = settled (λ x v p. (p, refl))
 
-pub energy : Settles scheduler.energy.ended scheduler.energy.Reads.Asked scheduler.energy.Reads.Learnt
+pub energy : Settles decisions.energy.ended decisions.energy.Reads.Asked decisions.energy.Reads.Learnt
 energy κs a = settled (λ x v p. (p, refl))
 
-head-fits : Settles scheduler.head_fits.ended scheduler.head_fits.Reads.Asked scheduler.head_fits.Reads.Learnt
+head-fits : Settles decisions.head_fits.ended decisions.head_fits.Reads.Asked decisions.head_fits.Reads.Learnt
 head-fits κs a = settled (λ x v p. (p, refl))
 
-place-fits : Settles scheduler.place_fits.ended scheduler.place_fits.Reads.Asked scheduler.place_fits.Reads.Learnt
+place-fits : Settles decisions.place_fits.ended decisions.place_fits.Reads.Asked decisions.place_fits.Reads.Learnt
 place-fits κs a = settled (λ x v p. (p, refl))
 
-tally-fits : Settles scheduler.tally_fits.ended scheduler.tally_fits.Reads.Asked scheduler.tally_fits.Reads.Learnt
+tally-fits : Settles decisions.tally_fits.ended decisions.tally_fits.Reads.Asked decisions.tally_fits.Reads.Learnt
 tally-fits κs a = settled (λ x v p. (p, refl))
 
-may-release : Settles scheduler.may_release.ended scheduler.may_release.Reads.Asked scheduler.may_release.Reads.Learnt
+may-release : Settles decisions.may_release.ended decisions.may_release.Reads.Asked decisions.may_release.Reads.Learnt
 may-release κs a = settled (λ x v p. (p, refl))
 
-may-step : Settles scheduler.may_step.ended scheduler.may_step.Reads.Asked scheduler.may_step.Reads.Learnt
+may-step : Settles decisions.may_step.ended decisions.may_step.Reads.Asked decisions.may_step.Reads.Learnt
 may-step κs a = settled (λ x v p. (p, refl))
 
-in-slot : Settles scheduler.«in_slot».ended scheduler.«in_slot».Reads.Asked scheduler.«in_slot».Reads.Learnt
+in-slot : Settles decisions.«in_slot».ended decisions.«in_slot».Reads.Asked decisions.«in_slot».Reads.Learnt
 in-slot κs a = settled (λ x v p. (p, refl))
 
-last-boundary : Settles scheduler.last_boundary.ended scheduler.last_boundary.Reads.Asked scheduler.last_boundary.Reads.Learnt
+last-boundary : Settles decisions.last_boundary.ended decisions.last_boundary.Reads.Asked decisions.last_boundary.Reads.Learnt
 last-boundary κs a = settled (λ x v p. (p, refl))
 
-run-or-tail : Settles scheduler.run_or_tail.ended scheduler.run_or_tail.Reads.Asked scheduler.run_or_tail.Reads.Learnt
+run-or-tail : Settles decisions.run_or_tail.ended decisions.run_or_tail.Reads.Asked decisions.run_or_tail.Reads.Learnt
 run-or-tail κs a = settled (λ x v p. (p, refl))
 
-count-of : Settles scheduler.count_of.ended scheduler.count_of.Reads.Asked scheduler.count_of.Reads.Learnt
+count-of : Settles decisions.count_of.ended decisions.count_of.Reads.Asked decisions.count_of.Reads.Learnt
 count-of κs a = settled (λ x v p. (p, refl))
 
-came-by : Settles scheduler.came_by.ended scheduler.came_by.Reads.Asked scheduler.came_by.Reads.Learnt
+came-by : Settles decisions.came_by.ended decisions.came_by.Reads.Asked decisions.came_by.Reads.Learnt
 came-by κs a = settled (λ x v p. (p, refl))
 
-worked : Settles scheduler.worked.ended scheduler.worked.Reads.Asked scheduler.worked.Reads.Learnt
+worked : Settles decisions.worked.ended decisions.worked.Reads.Asked decisions.worked.Reads.Learnt
 worked κs a = settled (λ x v p. (p, refl))
 
 -- The public function of crate texts is settled.

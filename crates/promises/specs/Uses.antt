@@ -32,15 +32,17 @@ use Rattle.admission.specs.Figure.{limit}
 use Rattle.admission.specs.Says.{Has-window, Judged}
 use Rattle.admission.specs.Verdicts.{verdict, walkFrom, zeros, admitOf}
 use Rattle.admission.specs.Applies.{Admission-applies}
-use Rattle.scheduler.specs.declared.Job.the-variants.{Resting, Working}
-use Rattle.scheduler.specs.declared.Tally.{Tally}
-use Rattle.scheduler.specs.declared.Tick.the-variants.{Run, Slot, Tail}
+use Rattle.decisions.specs.declared.Job.the-variants.{Resting, Working}
+use Rattle.decisions.specs.declared.Tally.{Tally}
+use Rattle.decisions.specs.declared.Tick.the-variants.{Run, Slot, Tail}
 use Rattle.scheduler.specs.declared.Ticked.the-variants as ticked
-use Rattle.scheduler.specs.declared.Answer.the-variants as answer
-use Rattle.scheduler.specs.States.{entryIn, recordIn, periodBefore, stateFits, entriesOf, noTicks, total}
-use Rattle.scheduler.specs.Releases.{askDemand, askTask, mayRelease, releaseAnswer, releaseOf}
+use Rattle.decisions.specs.declared.Answer.the-variants as answer
+use Rattle.decisions.specs.Fits.{noTicks, total}
+use Rattle.scheduler.specs.States.{entryIn, recordIn, periodBefore, stateFits, entriesOf}
+use Rattle.decisions.specs.Asks.{askDemand, askTask, mayRelease}
+use Rattle.scheduler.specs.Releases.{releaseAnswer, releaseOf}
 use Rattle.scheduler.specs.Steps.{tickOf, made, stepOf}
-use Rattle.scheduler.specs.Energies.{energyOf}
+use Rattle.decisions.specs.Energies.{energyOf}
 use Rattle.scheduler.specs.Applies.{Release-applies, Step-applies, Energy-applies, Rules-kept}
 use Rattle.scheduler.specs.Fresh.{Fresh}
 use Rattle.scheduler.specs.MayRun.{May-run}

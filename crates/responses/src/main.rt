@@ -3,10 +3,10 @@
 // with 5 the pattern is given to the tasks up to the failing one.
 use admission::Answer;
 use admission::admit;
-use scheduler::Job;
+use decisions::Job;
+use decisions::Tally;
+use decisions::Tick;
 use scheduler::State;
-use scheduler::Tally;
-use scheduler::Tick;
 use scheduler::Ticked;
 use scheduler::release;
 use scheduler::start;

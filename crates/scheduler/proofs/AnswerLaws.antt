@@ -22,23 +22,25 @@ use Rattle.table.proofs.TimesLaws.{time-says, says-time}
 use Rattle.table.proofs.SoundLaws.{read-sound, sound-read, reading-gives}
 use Rattle.table.proofs.LowestLaws.{not-both, fails, holds, number, Chain, first, more, when, unless, past, one-lowest}
 use Rattle.table.proofs.ReadingLaws.{reading-refused-exactly}
-use Rattle.scheduler.specs.declared.Job.{Job}
-use Rattle.scheduler.specs.declared.Job.the-variants.{Resting, Working}
-use Rattle.scheduler.specs.declared.Last.{Last}
-use Rattle.scheduler.specs.declared.Last.the-variants.{Never, At}
+use Rattle.decisions.specs.declared.Job.{Job}
+use Rattle.decisions.specs.declared.Job.the-variants.{Resting, Working}
+use Rattle.decisions.specs.declared.Last.{Last}
+use Rattle.decisions.specs.declared.Last.the-variants.{Never, At}
 use Rattle.scheduler.specs.declared.State.{State}
-use Rattle.scheduler.specs.declared.Tally.{Tally}
-use Rattle.scheduler.specs.declared.Tick.{Tick}
+use Rattle.decisions.specs.declared.Tally.{Tally}
+use Rattle.decisions.specs.declared.Tick.{Tick}
 use Rattle.scheduler.specs.declared.Ticked.the-variants as ticked
 use Rattle.scheduler.specs.declared.Moved.{Moved}
-use Rattle.scheduler.specs.declared.Answer.{Answer}
-use Rattle.scheduler.specs.declared.Answer.the-variants.{Accepted, Refused}
-use Rattle.scheduler.specs.States.{clockEnd, headOf, entryIn, total, stateFits, tallyFits}
+use Rattle.decisions.specs.declared.Answer.{Answer}
+use Rattle.decisions.specs.declared.Answer.the-variants.{Accepted, Refused}
+use Rattle.decisions.specs.Fits.{clockEnd, total, tallyFits}
+use Rattle.scheduler.specs.States.{headOf, entryIn, stateFits}
 use Rattle.scheduler.specs.Lawful.{Lawful-state}
 use Rattle.scheduler.specs.Starts.{Given, startedFrom, startOf}
-use Rattle.scheduler.specs.Releases.{working, early, askSpacing, askTime, askDemand, askTask, mayRelease, releaseAnswer, releasedFrom, releaseOf}
-use Rattle.scheduler.specs.Steps.{tickOf, mayStep, stepFrom, stepOf}
-use Rattle.scheduler.specs.Energies.{powerMost, energyIn, energyOf}
+use Rattle.decisions.specs.Asks.{working, early, askSpacing, askTime, askDemand, askTask, mayRelease, mayStep}
+use Rattle.scheduler.specs.Releases.{releaseAnswer, releasedFrom, releaseOf}
+use Rattle.scheduler.specs.Steps.{tickOf, stepFrom, stepOf}
+use Rattle.decisions.specs.Energies.{powerMost, energyIn, energyOf}
 use Rattle.scheduler.specs.Applies.{Release-applies, Releasable, Rules-kept, Step-applies, Energy-applies}
 use Rattle.scheduler.specs.Fresh.{Fresh}
 use Rattle.scheduler.proofs.StateLaws.{fits-says, says-fits}

@@ -1,7 +1,5 @@
 -- `StateLaws` proves that the test of a state's rules says what the rules are.
 pub mod StateLaws
--- `ReadyLaws` proves which job may run at a tick.
-pub mod ReadyLaws
 -- `PlaceLaws` is about states that differ in one place, and when they keep the rules.
 pub mod PlaceLaws
 -- `ReleaseLaws` proves what an accepted release found, and what it does.

@@ -8,12 +8,13 @@ use native.Mathlib.Omega.{arith}
 use borrow.Author.Tests.{leb-true, le-leb}
 use Rattle.base.proofs.Split.{by-lt}
 use Rattle.base.proofs.FirstLaws.{first-is}
-use Rattle.scheduler.specs.declared.Job.{Job}
-use Rattle.scheduler.specs.declared.Job.the-variants.{Resting, Working}
+use Rattle.decisions.specs.declared.Job.{Job}
+use Rattle.decisions.specs.declared.Job.the-variants.{Resting, Working}
 use Rattle.scheduler.specs.declared.State.{State}
-use Rattle.scheduler.specs.declared.Tick.the-variants.{Run, Slot, Tail}
+use Rattle.decisions.specs.declared.Tick.the-variants.{Run, Slot, Tail}
 use Rattle.scheduler.specs.States.{headOf, entryIn}
-use Rattle.scheduler.specs.Steps.{mayRun, firstReady, tickOf}
+use Rattle.decisions.specs.Ticks.{mayRun}
+use Rattle.scheduler.specs.Steps.{firstReady, tickOf}
 use Rattle.scheduler.specs.MayRun.{May-run, First-to-run}
 use Rattle.scheduler.proofs.TickLaws.{Tick-is, slots, runs, tails, tick-is}
 

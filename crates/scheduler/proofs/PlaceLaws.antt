@@ -11,11 +11,12 @@ use Rattle.table.specs.Sound.{places}
 use Rattle.table.specs.Times.{releaseTime}
 use Rattle.table.specs.Rules.{Sound-set}
 use Rattle.table.proofs.SetLaws.{set-same}
-use Rattle.scheduler.specs.declared.Job.the-variants.{Working}
-use Rattle.scheduler.specs.declared.Last.the-variants.{At}
-use Rattle.scheduler.specs.declared.Entry.{Entry}
+use Rattle.decisions.specs.declared.Job.the-variants.{Working}
+use Rattle.decisions.specs.declared.Last.the-variants.{At}
+use Rattle.decisions.specs.declared.Entry.{Entry}
 use Rattle.scheduler.specs.declared.State.{State}
-use Rattle.scheduler.specs.States.{clockEnd, noEntry, entryIn, recordIn}
+use Rattle.decisions.specs.Fits.{clockEnd, noEntry}
+use Rattle.scheduler.specs.States.{entryIn, recordIn}
 use Rattle.scheduler.specs.Lawful.{Lawful-task, Lawful-state}
 
 -- A state has its 16 places (as every state of the code has).

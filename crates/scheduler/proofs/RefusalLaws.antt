@@ -1,28 +1,28 @@
 -- This file proves which refusals each call can give. (A start gives those of its reading.)
-use Prim.Native.Nat.{ℕ, _-_, _<_}
+use Prim.Native.Nat.{ℕ, _-_}
 use mathlib.Core.Path.{_≡_, refl, ap, sym, _∙_}
-use mathlib.Core.Logic.{_↔_}
-use mathlib.Core.Bool.{Bool, true, false, cond, _&&_, _||_}
+use mathlib.Core.Bool.{Bool, true, cond, _&&_, _||_}
 use native.Mathlib.Omega.{arith}
 use lib.Dec.{leb, ltb}
-use borrow.Author.Tests.{ltb-true, lt-ltb}
 use Rattle.base.proofs.ChoiceLaws.{either}
 use Rattle.table.specs.declared.Refusal.{Refusal}
 use Rattle.table.specs.declared.Refusal.the-variants as refusal
 use Rattle.table.specs.Refusals.{releaseGives, stepGives, energyGives}
 use Rattle.table.specs.Times.{releaseTime}
-use Rattle.scheduler.specs.declared.Entry.{Entry}
-use Rattle.scheduler.specs.declared.Head.{Head}
+use Rattle.decisions.specs.declared.Entry.{Entry}
+use Rattle.decisions.specs.declared.Head.{Head}
 use Rattle.scheduler.specs.declared.State.{State}
-use Rattle.scheduler.specs.declared.Tally.{Tally}
+use Rattle.decisions.specs.declared.Tally.{Tally}
 use Rattle.scheduler.specs.declared.Ticked.the-variants as ticked
-use Rattle.scheduler.specs.declared.Answer.{Answer}
-use Rattle.scheduler.specs.declared.Answer.the-variants.{Accepted, Refused}
-use Rattle.scheduler.specs.declared.EnergyReading.{EnergyReading}
-use Rattle.scheduler.specs.States.{clockEnd, headOf, entryIn, total, stateFits, tallyFits}
-use Rattle.scheduler.specs.Releases.{working, early, askSpacing, askTime, askDemand, askTask, mayRelease, releaseAnswer, releasedFrom, releaseOf}
-use Rattle.scheduler.specs.Steps.{tickOf, mayStep, stepOf}
-use Rattle.scheduler.specs.Energies.{powerMost, energyIn, energyOf}
+use Rattle.decisions.specs.declared.Answer.{Answer}
+use Rattle.decisions.specs.declared.Answer.the-variants.{Accepted, Refused}
+use Rattle.decisions.specs.declared.EnergyReading.{EnergyReading}
+use Rattle.decisions.specs.Fits.{clockEnd, total, tallyFits}
+use Rattle.scheduler.specs.States.{headOf, entryIn, stateFits}
+use Rattle.decisions.specs.Asks.{working, early, askSpacing, askTime, askDemand, askTask, mayRelease, mayStep}
+use Rattle.scheduler.specs.Releases.{releaseAnswer, releasedFrom, releaseOf}
+use Rattle.scheduler.specs.Steps.{tickOf, stepOf}
+use Rattle.decisions.specs.Energies.{powerMost, energyIn, energyOf}
 
 -- An answer is accepted, or refused with a refusal that the call gives.
 abbrev Gives : (Refusal → Bool) → Answer → Type 0

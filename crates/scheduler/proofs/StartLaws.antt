@@ -13,13 +13,14 @@ use Rattle.table.specs.Bytes.{recordAt}
 use Rattle.table.specs.Sound.{places, readOf}
 use Rattle.table.proofs.SoundLaws.{read-sound}
 use Rattle.table.proofs.SetLaws.{set-same}
-use Rattle.scheduler.specs.declared.Job.the-variants.{Resting}
-use Rattle.scheduler.specs.declared.Last.the-variants.{Never}
-use Rattle.scheduler.specs.declared.Entry.{Entry}
-use Rattle.scheduler.specs.declared.Tally.{Tally}
+use Rattle.decisions.specs.declared.Job.the-variants.{Resting}
+use Rattle.decisions.specs.declared.Last.the-variants.{Never}
+use Rattle.decisions.specs.declared.Entry.{Entry}
+use Rattle.decisions.specs.declared.Tally.{Tally}
 use Rattle.scheduler.specs.declared.Ticked.the-variants as ticked
-use Rattle.scheduler.specs.declared.Answer.the-variants.{Refused}
-use Rattle.scheduler.specs.States.{noEntry, entryIn, recordIn, stateFits, entriesOf}
+use Rattle.decisions.specs.declared.Answer.the-variants.{Refused}
+use Rattle.decisions.specs.Fits.{noEntry}
+use Rattle.scheduler.specs.States.{entryIn, recordIn, stateFits, entriesOf}
 use Rattle.scheduler.specs.Lawful.{Lawful-task, Lawful-state}
 use Rattle.scheduler.specs.Starts.{Given, freshState, noState}
 use Rattle.scheduler.specs.Releases.{releaseAnswer, releaseOf}

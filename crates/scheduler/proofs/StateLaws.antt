@@ -15,14 +15,15 @@ use Rattle.table.specs.Sound.{places, recordFits, sleepFits}
 use Rattle.table.specs.Times.{releaseTime}
 use Rattle.table.specs.Rules.{Lawful}
 use Rattle.table.proofs.SoundLaws.{record-says, says-record}
-use Rattle.scheduler.specs.declared.Job.{Job}
-use Rattle.scheduler.specs.declared.Job.the-variants.{Resting, Working}
-use Rattle.scheduler.specs.declared.Last.{Last}
-use Rattle.scheduler.specs.declared.Last.the-variants.{Never, At}
-use Rattle.scheduler.specs.declared.Entry.{Entry}
-use Rattle.scheduler.specs.declared.Head.{Head}
+use Rattle.decisions.specs.declared.Job.{Job}
+use Rattle.decisions.specs.declared.Job.the-variants.{Resting, Working}
+use Rattle.decisions.specs.declared.Last.{Last}
+use Rattle.decisions.specs.declared.Last.the-variants.{Never, At}
+use Rattle.decisions.specs.declared.Entry.{Entry}
+use Rattle.decisions.specs.declared.Head.{Head}
 use Rattle.scheduler.specs.declared.State.{State}
-use Rattle.scheduler.specs.States.{clockEnd, noEntry, headOf, entryIn, recordIn, periodBefore, zeroed, lastFits, lastIs, jobFits, taskFits, restsNever, spareFits, placeFits, placesFit, headFits, stateFits}
+use Rattle.decisions.specs.Fits.{clockEnd, noEntry, zeroed, lastFits, lastIs, jobFits, taskFits, restsNever, spareFits, placeFits, headFits}
+use Rattle.scheduler.specs.States.{headOf, entryIn, recordIn, periodBefore, placesFit, stateFits}
 use Rattle.scheduler.specs.Lawful.{Lawful-task, Lawful-state}
 
 -- A last release passes its test exactly when it keeps its rules.

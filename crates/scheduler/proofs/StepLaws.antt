@@ -9,14 +9,16 @@ use Rattle.base.proofs.ChoiceLaws.{chosen, passed}
 use Rattle.table.specs.declared.Refusal.{Refusal}
 use Rattle.table.specs.declared.Refusal.the-variants as refusal
 use Rattle.scheduler.specs.declared.State.{State}
-use Rattle.scheduler.specs.declared.Tally.{Tally}
+use Rattle.decisions.specs.declared.Tally.{Tally}
 use Rattle.scheduler.specs.declared.Ticked.the-variants as ticked
 use Rattle.scheduler.specs.declared.Moved.{Moved}
-use Rattle.scheduler.specs.declared.Answer.{Answer}
-use Rattle.scheduler.specs.declared.Answer.the-variants.{Accepted, Refused}
-use Rattle.scheduler.specs.States.{clockEnd, total, stateFits, tallyFits}
+use Rattle.decisions.specs.declared.Answer.{Answer}
+use Rattle.decisions.specs.declared.Answer.the-variants.{Accepted, Refused}
+use Rattle.decisions.specs.Fits.{clockEnd, total, tallyFits}
+use Rattle.scheduler.specs.States.{stateFits}
 use Rattle.scheduler.specs.Lawful.{Lawful-state}
-use Rattle.scheduler.specs.Steps.{tickOf, made, unmoved, mayStep, stepOf}
+use Rattle.decisions.specs.Asks.{mayStep}
+use Rattle.scheduler.specs.Steps.{tickOf, made, unmoved, stepOf}
 use Rattle.scheduler.proofs.StateLaws.{says-fits}
 use Rattle.scheduler.proofs.ReleaseLaws.{refused-not}
 

@@ -6,15 +6,25 @@ use mathlib.Core.Bool.{Bool, true, false, cond}
 use native.Mathlib.Omega.{arith}
 use lib.Dec.{leb, ltb}
 use borrow.Author.Tests.{leb-false, ltb-true, ltb-false}
-use Rattle.base.proofs.FirstLaws.{first-is}
-use Rattle.scheduler.specs.declared.Job.{Job}
-use Rattle.scheduler.specs.declared.Job.the-variants.{Resting, Working}
+use Rattle.base.specs.First.{firstFrom}
+use Rattle.base.proofs.FirstLaws.{first-is, first-same}
+use Rattle.decisions.specs.declared.Job.{Job}
+use Rattle.decisions.specs.declared.Job.the-variants.{Resting, Working}
 use Rattle.scheduler.specs.declared.State.{State}
-use Rattle.scheduler.specs.declared.Tick.the-variants.{Run, Slot, Tail}
-use Rattle.scheduler.specs.States.{clockEnd, headOf, entryIn, aged}
+use Rattle.decisions.specs.declared.Tick.the-variants.{Run, Slot, Tail}
+use Rattle.decisions.specs.Fits.{clockEnd}
+use Rattle.scheduler.specs.States.{headOf, entryIn, aged}
 use Rattle.scheduler.specs.Lawful.{Lawful-state}
-use Rattle.scheduler.specs.Steps.{inSlot, mayRun, firstReady, workedJob, workedOf, tickOf, afterRun, afterTick}
+use Rattle.decisions.specs.Ticks.{lastBoundary, inSlot, mayRun, came, workedJob, workedOf}
+use Rattle.decisions.proofs.ReadyLaws.{came-may-run}
+use Rattle.scheduler.specs.Steps.{firstReady, tickOf, afterRun, afterTick}
 use Rattle.scheduler.proofs.PlaceLaws.{Sized, Keeps, keeps-lawful, set-place}
+
+-- The first task of a state that may run is found by its last boundary.
+pub first-ready-is : (s : State) → 1 ≤ s .sleep .period → firstFrom (λ i. came (lastBoundary (headOf s)) (entryIn s i .job)) (s .n) 0 ≡ firstReady s
+first-ready-is s p =
+    first-same (λ i. came (lastBoundary (headOf s)) (entryIn s i .job)) (λ i. mayRun (headOf s) (entryIn s i .job)) (s .n) 0
+    (λ i g l. came-may-run (headOf s) (entryIn s i .job) p)
 
 -- The job at `firstReady` may run, where that is a task's place, and no job before it may.
 pub first-says : (s : State) → firstReady s < s .n

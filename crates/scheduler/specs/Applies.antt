@@ -5,13 +5,14 @@ use mathlib.Core.Path.{_≡_}
 use mathlib.Core.Logic.{_≢_, _⊎_}
 use Rattle.table.specs.declared.Refusal.{Refusal}
 use Rattle.table.specs.declared.Refusal.the-variants as refusal
-use Rattle.scheduler.specs.declared.Job.the-variants.{Resting, Working}
-use Rattle.scheduler.specs.declared.Last.the-variants.{At}
+use Rattle.decisions.specs.declared.Job.the-variants.{Resting, Working}
+use Rattle.decisions.specs.declared.Last.the-variants.{At}
 use Rattle.scheduler.specs.declared.State.{State}
-use Rattle.scheduler.specs.declared.Tally.{Tally}
-use Rattle.scheduler.specs.States.{clockEnd, entryIn, total}
+use Rattle.decisions.specs.declared.Tally.{Tally}
+use Rattle.decisions.specs.Fits.{clockEnd, total}
+use Rattle.scheduler.specs.States.{entryIn}
 use Rattle.scheduler.specs.Lawful.{Lawful-state}
-use Rattle.scheduler.specs.Energies.{powerMost}
+use Rattle.decisions.specs.Energies.{powerMost}
 
 -- WHEN A REFUSAL APPLIES TO A RELEASE: 6 does where the state breaks a rule, 7 where the clock stands at its end, 8
 -- where the task number is not in 1 to n, 9 where the demand is not in 1 to C, 10 where it is task 1 off a multiple of

@@ -5,10 +5,11 @@ use mathlib.Core.List.{List}
 use lib.ListN.{length}
 use Rattle.table.specs.Bytes.{recordAt}
 use Rattle.table.specs.Sound.{places}
-use Rattle.scheduler.specs.declared.Job.the-variants.{Resting}
-use Rattle.scheduler.specs.declared.Last.the-variants.{Never}
+use Rattle.decisions.specs.declared.Job.the-variants.{Resting}
+use Rattle.decisions.specs.declared.Last.the-variants.{Never}
 use Rattle.scheduler.specs.declared.State.{State}
-use Rattle.scheduler.specs.States.{noEntry, entryIn, recordIn}
+use Rattle.decisions.specs.Fits.{noEntry}
+use Rattle.scheduler.specs.States.{entryIn, recordIn}
 
 -- The state holds the table of n tasks, the clock is 0, every task rests with the mark "never", and every place after
 -- the tasks is a spare one.

@@ -6,10 +6,11 @@ use mathlib.Core.Bool.{true}
 use Rattle.table.specs.Sound.{places}
 use Rattle.table.specs.Times.{releaseTime}
 use Rattle.table.specs.Rules.{Sound-set}
-use Rattle.scheduler.specs.declared.Job.the-variants.{Working}
-use Rattle.scheduler.specs.declared.Last.the-variants.{At}
+use Rattle.decisions.specs.declared.Job.the-variants.{Working}
+use Rattle.decisions.specs.declared.Last.the-variants.{At}
 use Rattle.scheduler.specs.declared.State.{State}
-use Rattle.scheduler.specs.States.{clockEnd, noEntry, entryIn, recordIn}
+use Rattle.decisions.specs.Fits.{clockEnd, noEntry}
+use Rattle.scheduler.specs.States.{entryIn, recordIn}
 
 -- The last release and the job of the task at place i keep their rules.
 pub record Lawful-task (s : State) (i : ℕ) : Type 0 where

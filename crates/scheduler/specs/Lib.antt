@@ -14,5 +14,3 @@ pub mod Steps
 pub mod Applies
 -- `MayRun` says, as facts, which task runs.
 pub mod MayRun
--- `Energies` defines the energy of a tally.
-pub mod Energies

@@ -2,7 +2,7 @@
 use Prim.Native.Nat.{ℕ, _-_, _≤_, _<_}
 use mathlib.Core.Path.{_≡_}
 use Rattle.theory.specs.Rules.{ready}
-use Rattle.scheduler.specs.declared.Job.the-variants.{Working}
+use Rattle.decisions.specs.declared.Job.the-variants.{Working}
 use Rattle.scheduler.specs.declared.State.{State}
 use Rattle.scheduler.specs.States.{entryIn}
 

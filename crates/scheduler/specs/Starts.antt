@@ -7,9 +7,10 @@ use Rattle.table.specs.declared.Reading.the-variants as read
 use Rattle.table.specs.Bytes.{noRecord, recordAt}
 use Rattle.table.specs.Sound.{places, readOf}
 use Rattle.scheduler.specs.declared.State.{State}
-use Rattle.scheduler.specs.declared.Answer.the-variants.{Accepted, Refused}
+use Rattle.decisions.specs.declared.Answer.the-variants.{Accepted, Refused}
 use Rattle.scheduler.specs.declared.Started.{Started}
-use Rattle.scheduler.specs.States.{noEntry, entriesOf}
+use Rattle.decisions.specs.Fits.{noEntry}
+use Rattle.scheduler.specs.States.{entriesOf}
 
 -- WHAT A START IS GIVEN: it is the bytes of a table.
 pub record Given : Type 0 where

@@ -2,16 +2,16 @@
 // at small inputs with what came back, and a state for every rule of RULES 4.
 ghost use mathlib.Core.Path.{_≡_};
 ghost use Rattle.scheduler.specs.Steps.{stepOf};
-use scheduler::Answer;
-use scheduler::Entry;
-use scheduler::Job;
-use scheduler::Last;
+use decisions::Answer;
+use decisions::Entry;
+use decisions::Job;
+use decisions::Last;
+use decisions::Tally;
+use decisions::Tick;
+use decisions::energy;
 use scheduler::Moved;
 use scheduler::State;
-use scheduler::Tally;
-use scheduler::Tick;
 use scheduler::Ticked;
-use scheduler::energy;
 use scheduler::release;
 use scheduler::start;
 use scheduler::step;

@@ -8,9 +8,9 @@ use native.Mathlib.Omega.{arith}
 use Prim.Native.Nat.{ℕ, _-_, _≤_}
 use Rattle.base.specs.First.{firstFrom}
 use Rattle.base.proofs.FirstLaws.{first-on, first-here, first-end}
-use Rattle.scheduler.specs.declared.Entry.{Entry}
-use Rattle.scheduler.specs.States.{noEntry}
-use Rattle.scheduler.specs.Steps.{came}
+use Rattle.decisions.specs.declared.Entry.{Entry}
+use Rattle.decisions.specs.Fits.{noEntry}
+use Rattle.decisions.specs.Ticks.{came}
 use Rattle.node.specs.Layout.{entriesIn}
 use Rattle.node.proofs.LayoutLaws.{entry-is}
 use Rattle.node.proofs.first_ready_in.Statement.{statement}

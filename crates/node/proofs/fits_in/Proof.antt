@@ -5,7 +5,7 @@ use mathlib.Core.Bool.{true}
 use mathlib.Core.Path.{_≡_, sym, _∙_, ap}
 use Prim.Native.Nat.{_≤_}
 use Rattle.table.specs.Sound.{places}
-use Rattle.scheduler.specs.States.{headFits}
+use Rattle.decisions.specs.Fits.{headFits}
 use Rattle.node.specs.Layout.{headSize, recordFrom}
 use Rattle.node.proofs.CallLaws.{fits-parts, few-tasks, places-fit}
 use Rattle.node.proofs.fits_in.Statement.{statement}

@@ -2,7 +2,7 @@
 use borrow.Author.Needs.{needs}
 use mathlib.Core.Path.{_≡_, refl, sym}
 use Prim.Native.Nat.{ℕ, zero, suc}
-use Rattle.scheduler.specs.declared.Job.the-variants.{Working}
+use Rattle.decisions.specs.declared.Job.the-variants.{Working}
 use Rattle.node.specs.Layout.{jobFrom}
 use Rattle.node.proofs.job_of.Statement.{statement}
 use Rattle.node.proofs.job_of.Tie as tie

@@ -2,7 +2,7 @@
 use borrow.Author.Needs.{needs}
 use mathlib.Core.Path.{_≡_, refl, sym}
 use Prim.Native.Nat.{ℕ, zero, suc}
-use Rattle.scheduler.specs.declared.Last.the-variants.{At}
+use Rattle.decisions.specs.declared.Last.the-variants.{At}
 use Rattle.node.specs.Layout.{lastFrom}
 use Rattle.node.proofs.last_of.Statement.{statement}
 use Rattle.node.proofs.last_of.Tie as tie

@@ -5,7 +5,7 @@ use mathlib.Core.Bool.{true, and-eq-true-iff}
 use mathlib.Core.Path.{_≡_, sym, _∙_, ap}
 use native.Mathlib.Omega.{arith}
 use Prim.Native.Nat.{_+_, _-_, _≤_}
-use Rattle.scheduler.specs.declared.Head.{Head}
+use Rattle.decisions.specs.declared.Head.{Head}
 use Rattle.scheduler.specs.States.{stateFits}
 use Rattle.scheduler.proofs.StateLaws.{fits-says}
 use Rattle.scheduler.proofs.TickLaws.{run-is-task}

@@ -5,8 +5,8 @@ use lib.ListN.{length}
 use mathlib.Core.Path.{_≡_, sym, _∙_, ap}
 use native.Mathlib.Nat.{add-zero}
 use native.Mathlib.Omega.{arith}
-use Rattle.scheduler.specs.declared.Tally.{Tally}
-use Rattle.scheduler.specs.Energies.{energyOf}
+use Rattle.decisions.specs.declared.Tally.{Tally}
+use Rattle.decisions.specs.Energies.{energyOf}
 use Rattle.scheduler.proofs.RefusalLaws.{energy-refused}
 use Rattle.node.specs.Calls.{energyOn}
 use Rattle.node.specs.Layout.{tallyIn}

@@ -2,7 +2,7 @@
 use borrow.Author.Needs.{needs}
 use borrow.Author.Tests.{eq-eqb, ne-eqb}
 use mathlib.Core.Path.{_≡_, refl}
-use Rattle.scheduler.specs.declared.Answer.{Answer}
+use Rattle.decisions.specs.declared.Answer.{Answer}
 use Rattle.node.specs.Calls.{startOn, startedOn}
 use Rattle.node.proofs.node_start.Statement.{statement}
 use Rattle.node.proofs.node_start.Tie as tie

@@ -3,10 +3,11 @@ use borrow.Author.Needs.{needs}
 use borrow.Author.Tests.{eqb-true}
 use mathlib.Core.Path.{_≡_, refl, sym, _∙_, ap}
 use native.Mathlib.Omega.{arith}
-use Rattle.scheduler.specs.declared.Count.{Count}
-use Rattle.scheduler.specs.declared.Head.{Head}
-use Rattle.scheduler.specs.States.{total}
-use Rattle.scheduler.specs.Steps.{countOf, raised}
+use Rattle.decisions.specs.declared.Count.{Count}
+use Rattle.decisions.specs.declared.Head.{Head}
+use Rattle.decisions.specs.Fits.{total}
+use Rattle.decisions.specs.Ticks.{countOf}
+use Rattle.scheduler.specs.Steps.{raised}
 use Rattle.scheduler.proofs.StepLaws.{May-step, may-step-says}
 use Rattle.node.specs.Layout.{clockAt, wordIn, tallyIn, tallyWords}
 use Rattle.node.specs.Calls.{Headed, wordsFit}

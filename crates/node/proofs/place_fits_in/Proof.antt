@@ -3,7 +3,7 @@ use borrow.Author.Needs.{needs}
 use borrow.Author.Tests.{not-true, not-false}
 use mathlib.Core.Path.{sym, _∙_, ap}
 use native.Mathlib.Omega.{arith}
-use Rattle.scheduler.specs.States.{placeFits}
+use Rattle.decisions.specs.Fits.{placeFits}
 use Rattle.node.proofs.LayoutLaws.{entry-is}
 use Rattle.node.proofs.place_fits_in.Statement.{statement}
 use Rattle.node.proofs.place_fits_in.Tie as tie

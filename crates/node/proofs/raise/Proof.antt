@@ -1,7 +1,7 @@
 -- `node::raise` meets its contract: a count, one up.
 use borrow.Author.Needs.{needs}
 use mathlib.Core.Path.{_∙_}
-use Rattle.scheduler.specs.declared.Count.the-variants.{Runs, Slots, Tails}
+use Rattle.decisions.specs.declared.Count.the-variants.{Runs, Slots, Tails}
 use Rattle.node.proofs.LayoutLaws.{count-put}
 use Rattle.node.proofs.raise.Statement.{statement}
 use Rattle.node.proofs.raise.Tie as tie

@@ -3,7 +3,7 @@ use borrow.Author.Needs.{needs}
 use mathlib.Core.Path.{_≡_, _∙_, ap}
 use native.Mathlib.Omega.{arith}
 use Prim.Native.Nat.{_-_}
-use Rattle.scheduler.specs.declared.Head.{Head}
+use Rattle.decisions.specs.declared.Head.{Head}
 use Rattle.node.specs.Layout.{clockAt, wordIn}
 use Rattle.node.proofs.LayoutLaws.{release-put}
 use Rattle.node.proofs.take.Statement.{statement}

@@ -4,7 +4,7 @@ use lib.ListN.{length, List·getD-eq-default}
 use mathlib.Core.Path.{_≡_, sym, _∙_}
 use native.Mathlib.Omega.{arith}
 use Prim.Native.Nat.{_-_, _≤_}
-use Rattle.scheduler.specs.States.{noEntry}
+use Rattle.decisions.specs.Fits.{noEntry}
 use Rattle.node.specs.Layout.{entriesIn}
 use Rattle.node.proofs.LayoutLaws.{entry-is, read-whole}
 use Rattle.node.proofs.task_in.Statement.{statement}

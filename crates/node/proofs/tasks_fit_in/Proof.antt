@@ -9,8 +9,8 @@ use native.Mathlib.Omega.{arith}
 use Prim.Native.Nat.{ℕ, _-_, _≤_}
 use Rattle.base.specs.Every.{every}
 use Rattle.base.proofs.EveryLaws.{every-more, every-not}
-use Rattle.scheduler.specs.declared.Entry.{Entry}
-use Rattle.scheduler.specs.declared.Head.{Head}
+use Rattle.decisions.specs.declared.Entry.{Entry}
+use Rattle.decisions.specs.declared.Head.{Head}
 use Rattle.scheduler.specs.States.{periodBefore}
 use Rattle.node.specs.Layout.{entriesIn}
 use Rattle.node.specs.Calls.{placeFitsIn}

@@ -4,12 +4,13 @@ use borrow.Author.Needs.{needs}
 use mathlib.Core.Bool.{and-eq-true-iff}
 use mathlib.Core.Path.{_≡_, sym, _∙_, ap}
 use native.Mathlib.Omega.{arith}
-use Rattle.scheduler.specs.declared.Head.{Head}
+use Rattle.decisions.specs.declared.Head.{Head}
 use Rattle.scheduler.specs.Lawful.{Lawful-state}
 use Rattle.scheduler.specs.States.{headOf, recordIn, stateFits}
-use Rattle.scheduler.specs.Steps.{inSlot, firstReady}
+use Rattle.decisions.specs.Ticks.{inSlot}
+use Rattle.scheduler.specs.Steps.{firstReady}
 use Rattle.scheduler.proofs.StateLaws.{fits-says}
-use Rattle.scheduler.proofs.ReadyLaws.{first-ready-is}
+use Rattle.scheduler.proofs.TickLaws.{first-ready-is}
 use Rattle.node.specs.Layout.{stateIn, encoded}
 use Rattle.node.proofs.tick_in.Statement.{statement}
 use Rattle.node.proofs.tick_in.Tie as tie

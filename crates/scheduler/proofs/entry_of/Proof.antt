@@ -4,7 +4,7 @@ use lib.ListN.{List·getD-eq-default}
 use mathlib.Core.Path.{_≡_, sym, _∙_}
 use native.Mathlib.Omega.{arith}
 use Prim.Native.Nat.{_-_}
-use Rattle.scheduler.specs.States.{noEntry}
+use Rattle.decisions.specs.Fits.{noEntry}
 use Rattle.scheduler.proofs.entry_of.Statement.{statement}
 use Rattle.scheduler.proofs.entry_of.Tie as tie
 

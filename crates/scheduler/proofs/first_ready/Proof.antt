@@ -8,9 +8,9 @@ use mathlib.Core.Path.{_≡_, sym, _∙_}
 use native.Mathlib.Omega.{arith}
 use Rattle.base.specs.First.{firstFrom}
 use Rattle.base.proofs.FirstLaws.{first-on, first-here, first-end}
-use Rattle.scheduler.specs.States.{noEntry}
-use Rattle.scheduler.specs.Steps.{came}
-use Rattle.scheduler.specs.declared.Entry.{Entry}
+use Rattle.decisions.specs.Fits.{noEntry}
+use Rattle.decisions.specs.Ticks.{came}
+use Rattle.decisions.specs.declared.Entry.{Entry}
 use Rattle.scheduler.proofs.first_ready.Statement.{statement}
 use Rattle.scheduler.proofs.first_ready.Tie as tie
 

@@ -2,7 +2,8 @@
 use borrow.Author.Needs.{needs}
 use borrow.Author.Tests.{not-true, not-false}
 use mathlib.Core.Path.{_≡_, sym, _∙_}
-use Rattle.scheduler.specs.States.{headOf, entryIn, recordIn, headFits, stateFits}
+use Rattle.decisions.specs.Fits.{headFits}
+use Rattle.scheduler.specs.States.{headOf, entryIn, recordIn, stateFits}
 use Rattle.scheduler.proofs.fits.Statement.{statement}
 use Rattle.scheduler.proofs.fits.Tie as tie
 

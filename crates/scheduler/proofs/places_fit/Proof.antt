@@ -10,9 +10,10 @@ use native.Mathlib.Numerals.{add-one}
 use native.Mathlib.Omega.{arith}
 use Rattle.base.specs.Every.{every}
 use Rattle.base.proofs.EveryLaws.{every-more, every-not}
-use Rattle.scheduler.specs.States.{noEntry, periodBefore, placeFits}
-use Rattle.scheduler.specs.declared.Entry.{Entry}
-use Rattle.scheduler.specs.declared.Head.{Head}
+use Rattle.decisions.specs.Fits.{noEntry, placeFits}
+use Rattle.scheduler.specs.States.{periodBefore}
+use Rattle.decisions.specs.declared.Entry.{Entry}
+use Rattle.decisions.specs.declared.Head.{Head}
 use Rattle.scheduler.proofs.places_fit.Statement.{statement}
 use Rattle.scheduler.proofs.places_fit.Tie as tie
 

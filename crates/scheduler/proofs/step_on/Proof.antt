@@ -2,8 +2,10 @@
 use borrow.Author.Tests.{eqb-true}
 use mathlib.Core.Path.{_≡_, sym, _∙_}
 use native.Mathlib.Omega.{arith}
-use Rattle.scheduler.specs.States.{recordIn, total, stateFits}
-use Rattle.scheduler.specs.Steps.{mayStep, stepOf, Ready}
+use Rattle.decisions.specs.Fits.{total}
+use Rattle.scheduler.specs.States.{recordIn, stateFits}
+use Rattle.decisions.specs.Asks.{mayStep}
+use Rattle.scheduler.specs.Steps.{stepOf, Ready}
 use Rattle.scheduler.proofs.StateLaws.{fits-says}
 use Rattle.scheduler.proofs.StepLaws.{May-step, may-step-says}
 use borrow.Author.Needs.{needs}

@@ -1,10 +1,11 @@
 -- `scheduler::tick_of` meets its contract: the first task that may run is found by the last boundary.
 use mathlib.Core.Path.{_≡_, ap, sym, _∙_}
 use native.Mathlib.Omega.{arith}
-use Rattle.scheduler.specs.declared.Head.{Head}
+use Rattle.decisions.specs.declared.Head.{Head}
 use Rattle.scheduler.specs.States.{headOf}
-use Rattle.scheduler.specs.Steps.{inSlot, firstReady}
-use Rattle.scheduler.proofs.ReadyLaws.{first-ready-is}
+use Rattle.decisions.specs.Ticks.{inSlot}
+use Rattle.scheduler.specs.Steps.{firstReady}
+use Rattle.scheduler.proofs.TickLaws.{first-ready-is}
 use borrow.Author.Needs.{needs}
 use Rattle.scheduler.proofs.tick_of.Statement.{statement}
 use Rattle.scheduler.proofs.tick_of.Tie as tie

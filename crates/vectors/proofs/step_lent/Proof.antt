@@ -40,13 +40,13 @@ use denote.Triple.Walked.{says, Stays, stay-none, walkOf, goes-none, Walks, ends
 use denote.Exit.{yes}
 use Rattle.scheduler.specs.Steps.{stepOf}
 use Rattle.scheduler.specs.declared.State.{State}
-use Rattle.scheduler.specs.declared.Tally.{Tally}
+use Rattle.decisions.specs.declared.Tally.{Tally}
 use Rattle.scheduler.specs.declared.Moved.{Moved}
 use Rattle.scheduler.specs.declared.Stepped.{Stepped}
 use Rattle.scheduler.proofs.State as S
 use Rattle.scheduler.proofs.State.Laws as S′
-use Rattle.scheduler.proofs.Tally as T
-use Rattle.scheduler.proofs.Tally.Laws as T′
+use Rattle.decisions.proofs.Tally as T
+use Rattle.decisions.proofs.Tally.Laws as T′
 use Rattle.scheduler.proofs.Moved as Mv
 use Rattle.scheduler.proofs.Moved.Laws as Mv′
 use Rattle.scheduler.proofs.Stepped as St

@@ -1,0 +1,2 @@
+-- `ReadyLaws` proves which job may run at a tick.
+pub mod ReadyLaws
