@@ -1,4 +1,4 @@
--- A release (RULES 6) is defined here, with refusals 6 to 12 in their order.
+-- A release (RULES 6) is defined here: refusal 6 comes before what is asked of it (decisions/specs/Asks.antt).
 use Prim.Native.Nat.{ℕ, _-_}
 use mathlib.Core.Bool.{cond}
 use Rattle.table.specs.declared.Refusal.the-variants as refusal

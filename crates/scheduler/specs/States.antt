@@ -1,4 +1,5 @@
--- RULES 4, "State", is defined here: what a state holds, and the rules that are checked for refusal 6.
+-- A state (RULES 4) is defined here: what it holds and how it changes, and its rules, which are those of its head and of
+-- every place (decisions/specs/Fits.antt).
 use Prim.Native.Nat.{ℕ, zero, suc, _+_}
 use mathlib.Core.List.{List}
 use mathlib.Core.Bool.{Bool, _&&_}

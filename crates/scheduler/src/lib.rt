@@ -1,6 +1,6 @@
 // The schedule of a node goes tick by tick: start makes a state by value, release and step carry it
-// on, the caller lends a tally, and energy reads one. Any state, tally, task number and demand may
-// be handed in; what is refused comes back unchanged. specs/ says what each call gives.
+// on, and the caller lends a tally. Any state, tally, task number and demand may be handed in; what
+// is refused comes back unchanged. specs/ says what each call gives.
 ghost use mathlib.Core.Path.{_≡_};
 ghost use Prim.Native.Nat.{_-_, _≤_, _<_};
 ghost use lib.ListN.{getD};
