@@ -48,11 +48,12 @@ first = record { place = 0; release = 20; at = 30 }
 thirty : List Call
 thirty = worstPattern (rulesOf (house .table)) 4 30
 
--- THE FINISHES ARE EXACTLY TASK 1'S AT 30, released at 20; no call is refused, and task 4 is still at work.
+-- THE FINISHES ARE EXACTLY TASK 1'S AT 30, released at 20; no call is refused, task 4 is still at work, and the
+-- counts are 2 run, 16 slot and 12 tail ticks.
 thirty-is : (history house thirty .finishes ≡ first ∷ []) × (history house thirty .taken ≡ released) × (history house thirty .state .clock ≡ 30)
-    × (history house thirty .refusals ≡ 0) × (entryIn (history house thirty .state) 3 .job ≡ Working 1 4)
+    × (history house thirty .refusals ≡ 0) × (entryIn (history house thirty .state) 3 .job ≡ Working 1 4) × (history house thirty .tally ≡ record { run = 2; slot = 16; tail = 12 })
 unfolding first released thirty house bytesOf wordAt recordAt firstFrom askRecords askOrder askSleep readOf ceil ready every recordIn periodBefore stateFits entriesOf stepOf askDemand askTask mayRelease releaseAnswer releaseTime next folded offset dueAt releasesAt worstPattern
-thirty-is = (refl, refl, refl, refl, refl)
+thirty-is = (refl, refl, refl, refl, refl, refl)
 
 -- The finishes are exactly task 1's at 30 also where the last step lends another tally that sums to the clock.
 lent : List Call

@@ -2,24 +2,37 @@
 -- together with its code is refused here.
 use Prim.Native.Nat.{ℕ}
 use mathlib.Core.Path.{_≡_, refl}
+use mathlib.Core.Bool.{Bool, true, false}
 use mathlib.Core.List.{List, [], _∷_, _++_}
 use lib.ListN.{replicate, set}
+use Rattle.base.specs.First.{firstFrom}
+use Rattle.base.specs.Sum.{sumTo}
+use Rattle.base.specs.Every.{every}
 use Rattle.base.specs.List.{listFrom}
+use Rattle.theory.specs.Round.{ceil}
+use Rattle.theory.specs.Rules.{demand}
+use Rattle.theory.specs.Rounds.{rounds, outcome}
 use Rattle.table.specs.declared.Record.{Record}
 use Rattle.table.specs.declared.Refusal.the-variants.{Length, Broken, Falling, Sleep, NoWindow, Unfit, ClockEnd, NoTask, Demand, OffBoundary, Working, Early, Power}
 use Rattle.table.specs.declared.Told.{Told}
-use Rattle.table.specs.Refusals.{toldOf}
-use Rattle.table.specs.Sound.{places}
+use Rattle.table.specs.Bytes.{wordAt, recordAt}
+use Rattle.table.specs.Refusals.{toldOf, Givers, givers}
+use Rattle.table.specs.Times.{waiting, releaseTime}
+use Rattle.table.specs.Sound.{largest, places, askRecords, askOrder, askSleep, readOf}
 use Rattle.admission.specs.declared.Answer.the-variants.{Admitted}
-use Rattle.admission.specs.Verdicts.{verdict, zeros}
+use Rattle.admission.specs.Verdicts.{verdict, walkFrom, zeros}
 use Rattle.decisions.specs.declared.Job.the-variants as job
 use Rattle.decisions.specs.declared.Last.the-variants as last
 use Rattle.decisions.specs.declared.Entry.{Entry}
 use Rattle.scheduler.specs.declared.State.{State}
 use Rattle.decisions.specs.declared.Tick.the-variants.{Run, Slot, Tail}
-use Rattle.decisions.specs.Fits.{noEntry}
-use Rattle.node.specs.Layout.{placesWords, stateWords, tallyWords, verdictWords}
-use Rattle.node.specs.Calls.{packed, toldAnswer, tickAnswer, energyOn}
+use Rattle.decisions.specs.Fits.{clockEnd, noEntry}
+use Rattle.decisions.specs.Energies.{powerMost}
+use Rattle.scheduler.specs.States.{recordIn, periodBefore, stateFits}
+use Rattle.scheduler.specs.Steps.{stepOf}
+use Rattle.node.specs.Layout.{placesWords, stateWords, tallyWords, verdictWords, encoded}
+use Rattle.node.specs.Calls.{packed, toldAnswer, tickAnswer, admitOn, startOn, releaseOn, stepOn, energyOn}
+use Rattle.promises.specs.Cases.{_per_, bytesOf}
 
 -- A refusal is written here as its number, the record or task that comes back with it, and the rounds spent.
 abbrev told : ℕ → ℕ → ℕ → Told
@@ -69,3 +82,50 @@ pub verdict-words-are : verdictWords (verdict (Admitted 2) (set (set zeros 0 10)
     ≡ (10 ∷ 13 ∷ []) ++ replicate 14 0 ++ (10 ∷ 32 ∷ []) ++ replicate 14 0 ++ (1 ∷ 2 ∷ []) ++ replicate 14 0
 unfolding listFrom
 verdict-words-are = refl
+
+-- The limits of RULES are these: the clock's end, the largest power figure, the largest period and the most tasks.
+pub limits-are : clockEnd ∷ powerMost ∷ largest ∷ places ∷ [] ≡ 1000000000 ∷ 1000000 ∷ 60000 ∷ 16 ∷ []
+limits-are = refl
+
+-- Which parts of the calls give a refusal, in the order of numbers: the reading of a table, the search, a release, a
+-- step, an energy reading (RULES 3.1, last column).
+abbrev gives : Bool → Bool → Bool → Bool → Bool → Givers
+gives reading search release step energy = record { reading = reading; search = search; release = release; step = step; energy = energy }
+
+pub givers-are : givers Length ∷ givers (Broken 7) ∷ givers (Falling 9) ∷ givers Sleep ∷ givers (NoWindow 3 40) ∷ givers Unfit ∷ givers ClockEnd ∷ givers NoTask ∷ givers Demand ∷ givers OffBoundary ∷ givers Working ∷ givers Early ∷ givers Power ∷ []
+    ≡ gives true false false false false
+    ∷ gives true false false false false
+    ∷ gives true false false false false
+    ∷ gives true false false false false
+    ∷ gives false true false false false
+    ∷ gives false false true true true
+    ∷ gives false false true true false
+    ∷ gives false false true false false
+    ∷ gives false false true false false
+    ∷ gives false false true false false
+    ∷ gives false false true false false
+    ∷ gives false false true false false
+    ∷ gives false false false false true
+    ∷ []
+givers-are = refl
+
+-- A buffer with one word too few or too many gets 6, also a state's or a tally's own words with a 0 behind them; and 6
+-- comes after 1 to 4 of a table (RULES 13.4) and before 13.
+pub other-lengths-are : (startOn [] (replicate 149 7) .answer ≡ 1)
+    × (startOn (bytesOf 0 (1 per 2 ∷ 1 per 2 ∷ [])) (replicate 149 7) .answer ≡ 6)
+    × (startOn (bytesOf 0 (1 per 2 ∷ 1 per 2 ∷ [])) (replicate 151 7) .answer ≡ 6)
+    × (admitOn [] (replicate 47 7) .answer ≡ 1)
+    × (admitOn (bytesOf 0 (1 per 2 ∷ 1 per 2 ∷ [])) (replicate 47 7) .answer ≡ 6)
+    × (admitOn (bytesOf 0 (1 per 2 ∷ 1 per 2 ∷ [])) (replicate 49 7) .answer ≡ 6)
+    × (releaseOn (stateWords two ++ 0 ∷ []) 2 3 .answer ≡ 6)
+    × (stepOn (stateWords two ++ 0 ∷ []) (20 ∷ 20 ∷ 5 ∷ []) .answer ≡ 6)
+    × (stepOn (stateWords two) (20 ∷ 20 ∷ 5 ∷ 0 ∷ []) .answer ≡ 6)
+    × (energyOn (11 ∷ 16 ∷ []) 1000001 16 ≡ 6)
+    × (energyOn (11 ∷ 16 ∷ 13 ∷ 0 ∷ []) 23000 16 ≡ 6)
+unfolding bytesOf wordAt recordAt firstFrom askRecords askOrder askSleep readOf ceil sumTo demand rounds outcome waiting walkFrom every releaseOn stepOn energyOn encoded placesWords
+other-lengths-are = (refl, refl, refl, refl, refl, refl, refl, refl, refl, refl, refl)
+
+-- The same state and tally at their own lengths are accepted: a slot tick at 45.
+pub own-lengths-are : stepOn (stateWords two) (20 ∷ 20 ∷ 5 ∷ []) .answer ≡ 256
+unfolding listFrom every releaseTime recordIn periodBefore stateFits stepOf stepOn encoded placesWords
+own-lengths-are = refl

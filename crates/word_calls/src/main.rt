@@ -35,6 +35,7 @@ fn main() {
     at_the_end(begun);
     strays(stop);
     energies();
+    other_lengths();
 }
 
 // A verdict is written where the set is admitted or a task has no window, and only there.
@@ -196,6 +197,23 @@ fn energies() {
     consumed(&[11, 16, 13], 23000, 1000001);
     consumed(&[1000000000, 0, 1], 1000001, 1);
     consumed(&[11, 16], 23000, 16);
+}
+
+// A buffer of another length gets 6, after 1 to 4 of the table and before 13.
+fn other_lengths() {
+    let mut verdict = [7u32; 47];
+    let mut longer = [7u32; 49];
+    say(b"admit 79 bytes into 47 words, the house table into 49\n");
+    answered(node_admit(&HOUSE[..79], &mut verdict));
+    answered(node_admit(&HOUSE, &mut longer));
+    let mut state = [7u32; 149];
+    let mut long = [7u32; 151];
+    say(b"start on 79 bytes into 149 words, on the house table into 151\n");
+    answered(node_start(&HOUSE[..79], &mut state));
+    answered(node_start(&HOUSE, &mut long));
+    say(b"energies of 2 words at 1,000,001 microwatts, of 4 words\n");
+    consumed(&[11, 16], 1000001, 16);
+    consumed(&[11, 16, 13, 0], 23000, 16);
 }
 
 fn asked(state: &mut [u32], task: u32, demand: u32) {
