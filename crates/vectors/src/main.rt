@@ -59,22 +59,8 @@ fn starts() {
 // Case J runs the worst pattern on the house table for 40 ticks, with its tally and its energy.
 fn case_j() {
     say(b"J\n");
-    let begun = start(&HOUSE);
-    let mut state = begun.state;
-    let mut tally = zeros();
-    let mut t: u32 = 0;
-    while t < 40 {
-        state = given(state, t, 20, 1);
-        let moved = step_lent(state, tally);
-        let answer = moved.answer;
-        number(t);
-        ticked(answer);
-        let after = moved.state;
-        let counts = moved.tally;
-        state = after;
-        tally = counts;
-        t += 1;
-    }
+    let ran = run_of(&HOUSE, 20, 1, 40, Written::Ticks);
+    let tally = ran.tally;
     counted(tally);
     consumed(tally, 23000, 16);
 }
@@ -83,21 +69,8 @@ fn case_j() {
 // finishes is written.
 fn figure_3() {
     say(b"F\n");
-    let begun = start(&FIGURE_3);
-    let mut state = begun.state;
-    let mut tally = zeros();
-    let mut t: u32 = 0;
-    while t < 90 {
-        state = given(state, t, 0, 0);
-        let moved = step_lent(state, tally);
-        let answer = moved.answer;
-        let after = moved.state;
-        let counts = moved.tally;
-        finished(state, after, answer);
-        state = after;
-        tally = counts;
-        t += 1;
-    }
+    let ran = run_of(&FIGURE_3, 0, 0, 90, Written::Finishes);
+    let tally = ran.tally;
     counted(tally);
 }
 
@@ -320,20 +293,56 @@ fn energies() {
 
 // The state is that of the house table under the worst pattern, before the step at clock t.
 fn house_at(t: u32) -> State {
-    let begun = start(&HOUSE);
+    let ran = run_of(&HOUSE, 20, 1, t, Written::Nothing);
+    let state = ran.state;
+    given(state, t, 20, 1)
+}
+
+// `Written` says what is written of a run.
+enum Written {
+    Nothing,
+    Ticks,
+    Finishes,
+}
+
+struct Ran {
+    state: State,
+    tally: Tally,
+}
+
+// A set runs from its start up to clock `end`: task 1 is released from tick `first` on, the others
+// from `others` on, each at its period.
+fn run_of(table: &[u8], first: u32, others: u32, end: u32, what: Written) -> Ran {
+    let begun = start(table);
     let mut state = begun.state;
     let mut tally = zeros();
-    let mut k: u32 = 0;
-    while k < t {
-        state = given(state, k, 20, 1);
+    let mut t: u32 = 0;
+    while t < end {
+        state = given(state, t, first, others);
         let moved = step_lent(state, tally);
+        let answer = moved.answer;
         let after = moved.state;
         let counts = moved.tally;
+        noted(what, t, state, after, answer);
         state = after;
         tally = counts;
-        k += 1;
+        t += 1;
     }
-    given(state, t, 20, 1)
+    Ran {
+        state: state,
+        tally: tally,
+    }
+}
+
+fn noted(what: Written, t: u32, before: State, after: State, answer: Ticked) {
+    match what {
+        Written::Nothing => {}
+        Written::Ticks => {
+            number(t);
+            ticked(answer);
+        }
+        Written::Finishes => finished(before, after, answer),
+    }
 }
 
 // Every step of this program goes through here: it is `step` itself, to which the tally is lent.
