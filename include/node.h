@@ -115,7 +115,9 @@ uint64_t node_admit(const uint8_t *table, uint64_t table_len,
 uint64_t node_start(const uint8_t *table, uint64_t table_len,
                     uint32_t *state, uint64_t state_len);
 
-/* A release of a task, from 1, at the state's clock. Refusals 6 to 12. */
+/* A release of a task, from 1, at the state's clock: before the step of that tick, in any order.
+ * demand is this job's work in ticks, 1 to the task's work. Task 1 comes at multiples of H alone,
+ * and releases of a task are at least its period apart. Refusals 6 to 12. */
 uint64_t node_release(uint32_t *state, uint64_t state_len, uint32_t task, uint32_t demand);
 
 /* One tick: kind is NODE_RUN, NODE_SLOT or NODE_TAIL, task the one that ran, from 1. The state goes
@@ -126,7 +128,8 @@ uint64_t node_step(uint32_t *state, uint64_t state_len, uint32_t *tally, uint64_
 uint64_t node_energy(const uint32_t *tally, uint64_t tally_len,
                      uint32_t run_power, uint32_t sleep_power);
 
-/* The parts of an answer: of any call, of admission and start, and of admission. */
+/* The parts of an answer: its number, of any call; the place, of admission and start; the rounds, of
+ * admission. */
 static inline uint32_t node_number(uint64_t answer) { return (uint32_t)(answer & 0xff); }
 static inline uint32_t node_place(uint64_t answer) { return (uint32_t)(answer >> 8 & 0xff); }
 static inline uint32_t node_rounds(uint64_t answer) { return (uint32_t)(answer >> 16); }

@@ -1,7 +1,7 @@
--- DEMAND 1 stands here on one page: the record `Demand-1` has the user's words, a field for each sentence; the records above
--- it say what we make of them, call by call, and `demand-1` shows that all of it holds. What a number means is `toldOf` (table/specs/Refusals.antt); when a
--- refusal applies is said in the words of RULES 3.1, column "applies when" (specs/Applies.antt of table, admission and
--- scheduler), and `Lowest` is RULES 3.2.
+-- DEMAND 1 stands here on one page: the record `Demand-1` has the user's words, a field for each sentence; the records
+-- above it say what we make of them, call by call, and `demand-1` shows that all of it holds. What a number means is
+-- `toldOf` (table/specs/Refusals.antt); when a refusal applies is said in the words of RULES 3.1, column "applies when"
+-- (specs/Applies.antt of table, admission and scheduler), and `Lowest` is RULES 3.2.
 use Prim.Native.Nat.{ℕ, _%_, _≤_}
 use mathlib.Core.Path.{_≡_, refl}
 use mathlib.Core.Logic.{_↔_}

@@ -1,7 +1,8 @@
--- DEMAND 2 stands here on one page: the record `Demand-2` has the user's words, a field for each sentence; the records above
--- it say what we make of them, and `demand-2` shows that all of it holds. It speaks of `readOf`, `admitOf`, `stepOf` and `energyOf`, which the
--- contracts of `table::read`, `admission::admit`, `scheduler::step` and `scheduler::energy` give as their whole results.
--- In a state s the clock t is `s .clock`, H is `s .sleep .period` and S is `s .sleep .work`.
+-- DEMAND 2 stands here on one page: the record `Demand-2` has the user's words, a field for each sentence; the records
+-- above it say what we make of them, and `demand-2` shows that all of it holds. It speaks of `readOf`, `admitOf`,
+-- `stepOf` and `energyOf`, which the contracts of `table::read`, `admission::admit`, `scheduler::step` and
+-- `decisions::energy` give as their whole results. In a state s the clock t is `s .clock`, H is `s .sleep .period` and
+-- S is `s .sleep .work`.
 use Prim.Native.Nat.{ℕ, _+_, _*_, _/_, _%_, _≤_, _<_}
 use mathlib.Core.Path.{_≡_, refl, ap}
 use mathlib.Core.Logic.{_↔_}

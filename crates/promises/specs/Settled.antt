@@ -96,6 +96,7 @@ step κs a = settled (λ x v p. (p .0, λ i. (tt, (p .1 i, tt))))
 step-on : Settles scheduler.step_on.ended scheduler.step_on.Reads.Asked scheduler.step_on.Reads.Learnt
 step-on κs a = settled (λ x v p. (p, refl))
 
+-- The public functions of crate decisions are settled.
 pub energy : Settles decisions.energy.ended decisions.energy.Reads.Asked decisions.energy.Reads.Learnt
 energy κs a = settled (λ x v p. (p, refl))
 

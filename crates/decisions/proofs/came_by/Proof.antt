@@ -1,4 +1,4 @@
--- `scheduler::came_by` meets its contract.
+-- `decisions::came_by` meets its contract.
 use borrow.Author.Needs.{needs}
 use Rattle.decisions.proofs.came_by.Statement.{statement}
 use Rattle.decisions.proofs.came_by.Tie as tie

@@ -1,4 +1,4 @@
--- `scheduler::energy` meets its contract: a count is at most the last clock and a power at most a million, so that
+-- `decisions::energy` meets its contract: a count is at most the last clock and a power at most a million, so that
 -- nothing wraps.
 use Prim.Native.Nat.{ℕ, _*_, _≤_}
 use borrow.Author.Tests.{lt-ltb, le-ltb}

@@ -1,4 +1,4 @@
--- `scheduler::free` meets its contract.
+-- `decisions::free` meets its contract.
 use borrow.Author.Needs.{needs}
 use mathlib.Core.Path.{sym, _∙_}
 use Rattle.decisions.proofs.free.Statement.{statement}

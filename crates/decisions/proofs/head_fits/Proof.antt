@@ -1,4 +1,4 @@
--- `scheduler::head_fits` meets its contract: each test decides one part of the rules.
+-- `decisions::head_fits` meets its contract: each test decides one part of the rules.
 use borrow.Author.Needs.{needs}
 use borrow.Author.Tests.{lt-leb, le-leb, not-true, not-false}
 use mathlib.Core.Path.{sym, _∙_}

@@ -1,4 +1,4 @@
--- `scheduler::in_slot` meets its contract; the remainder by 0 is the number itself.
+-- `decisions::in_slot` meets its contract; the remainder by 0 is the number itself.
 use native.Mathlib.Nat.{mod-zero}
 use borrow.Author.Needs.{needs}
 use Rattle.decisions.proofs.in_slot.Statement.{statement}

@@ -1,4 +1,4 @@
--- `scheduler::is_last` meets its contract.
+-- `decisions::is_last` meets its contract.
 use borrow.Author.Needs.{needs}
 use Rattle.decisions.proofs.is_last.Statement.{statement}
 use Rattle.decisions.proofs.is_last.Tie as tie

@@ -1,4 +1,4 @@
--- `scheduler::job_fits` meets its contract.
+-- `decisions::job_fits` meets its contract.
 use borrow.Author.Needs.{needs}
 use borrow.Author.Tests.{lt-leb, le-leb}
 use Rattle.decisions.proofs.job_fits.Statement.{statement}

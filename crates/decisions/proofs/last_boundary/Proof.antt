@@ -1,4 +1,4 @@
--- `scheduler::last_boundary` meets its contract; the remainder by 0 is the number itself.
+-- `decisions::last_boundary` meets its contract; the remainder by 0 is the number itself.
 use native.Mathlib.Nat.{mod-zero, mod-le, sub-self}
 use native.Mathlib.Omega.{arith}
 use borrow.Author.Needs.{needs}

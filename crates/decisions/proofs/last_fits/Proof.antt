@@ -1,4 +1,4 @@
--- `scheduler::last_fits` meets its contract.
+-- `decisions::last_fits` meets its contract.
 use borrow.Author.Needs.{needs}
 use borrow.Author.Tests.{lt-leb, le-leb}
 use Rattle.decisions.proofs.last_fits.Statement.{statement}

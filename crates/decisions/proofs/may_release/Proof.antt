@@ -1,4 +1,4 @@
--- `scheduler::may_release` meets its contract: the tests stand in the order of their numbers, and past each the answer
+-- `decisions::may_release` meets its contract: the tests stand in the order of their numbers, and past each the answer
 -- is that of the tests after it.
 use borrow.Author.Needs.{needs}
 use borrow.Author.Tests.{lt-leb, le-leb, not-true, not-false}

@@ -1,4 +1,4 @@
--- `scheduler::may_step` meets its contract.
+-- `decisions::may_step` meets its contract.
 use borrow.Author.Needs.{needs}
 use borrow.Author.Tests.{lt-leb, le-leb, not-true, not-false}
 use mathlib.Core.Path.{sym, _∙_}

@@ -1,4 +1,4 @@
--- `scheduler::place_fits` meets its contract.
+-- `decisions::place_fits` meets its contract.
 use borrow.Author.Needs.{needs}
 use borrow.Author.Tests.{lt-ltb, le-ltb}
 use Rattle.decisions.proofs.place_fits.Statement.{statement}

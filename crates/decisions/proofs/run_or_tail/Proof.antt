@@ -1,4 +1,4 @@
--- `scheduler::run_or_tail` meets its contract.
+-- `decisions::run_or_tail` meets its contract.
 use borrow.Author.Tests.{lt-ltb, le-ltb}
 use borrow.Author.Needs.{needs}
 use Rattle.decisions.proofs.run_or_tail.Statement.{statement}

@@ -1,4 +1,4 @@
--- `scheduler::spare_fits` meets its contract.
+-- `decisions::spare_fits` meets its contract.
 use borrow.Author.Needs.{needs}
 use borrow.Author.Tests.{eq-eqb, ne-eqb}
 use Rattle.decisions.proofs.spare_fits.Statement.{statement}

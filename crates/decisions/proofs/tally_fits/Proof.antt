@@ -1,4 +1,4 @@
--- `scheduler::tally_fits` meets its contract.
+-- `decisions::tally_fits` meets its contract.
 use borrow.Author.Needs.{needs}
 use Rattle.decisions.proofs.tally_fits.Statement.{statement}
 use Rattle.decisions.proofs.tally_fits.Tie as tie

@@ -1,4 +1,4 @@
--- `scheduler::task_fits` meets its contract.
+-- `decisions::task_fits` meets its contract.
 use borrow.Author.Needs.{needs}
 use borrow.Author.Tests.{lt-leb, le-leb, not-true, not-false}
 use mathlib.Core.Path.{sym, _∙_}

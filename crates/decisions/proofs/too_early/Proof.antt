@@ -1,4 +1,4 @@
--- `scheduler::too_early` meets its contract.
+-- `decisions::too_early` meets its contract.
 use borrow.Author.Needs.{needs}
 use Rattle.decisions.proofs.too_early.Statement.{statement}
 use Rattle.decisions.proofs.too_early.Tie as tie

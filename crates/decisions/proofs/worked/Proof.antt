@@ -1,4 +1,4 @@
--- `scheduler::worked` meets its contract.
+-- `decisions::worked` meets its contract.
 use borrow.Author.Needs.{needs}
 use borrow.Author.Tests.{le-leb, lt-leb}
 use mathlib.Core.Path.{ap}
