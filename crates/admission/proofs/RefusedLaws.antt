@@ -1,6 +1,6 @@
 -- An admission is refused exactly with the lowest number that applies: as its table is, or with 5 on a sound one.
-use Prim.Native.Nat.{ℕ, _+_, _≤_, _<_}
-use mathlib.Core.Path.{_≡_, refl, ap, sym, subst, _∙_}
+use Prim.Native.Nat.{ℕ, _+_}
+use mathlib.Core.Path.{_≡_, refl, ap, sym, _∙_}
 use mathlib.Core.Logic.{_↔_, _⊎_, inl, inr, ⊎-elim}
 use mathlib.Core.List.{List}
 use mathlib.Core.Bool.{true}
@@ -21,8 +21,8 @@ use Rattle.table.proofs.LowestLaws.{number}
 use Rattle.table.proofs.ReadingLaws.{reading-refused-exactly, sound-none-applies}
 use Rattle.admission.specs.declared.Answer.the-variants.{Admitted, Refused}
 use Rattle.admission.specs.Figure.{limit}
-use Rattle.admission.specs.Says.{Judged, admitted, refused, Has-window}
-use Rattle.admission.specs.Verdicts.{verdictOf, admitOf}
+use Rattle.admission.specs.Says.{Judged, admitted, refused}
+use Rattle.admission.specs.Verdicts.{admitOf}
 use Rattle.admission.specs.Applies.{Fails, Admission-applies}
 use Rattle.admission.proofs.AdmitLaws.{admit-says, refused-exactly}
 

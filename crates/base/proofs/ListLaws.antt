@@ -5,10 +5,9 @@ use mathlib.Core.Path.{_≡_, refl, ap, sym, _∙_}
 use mathlib.Core.Logic.{inl, inr}
 use mathlib.Core.List.{List, [], _∷_, _++_}
 use native.Mathlib.Omega.{arith}
-use lib.ListN.{length, getD, set, length-append, length-set, List·getD-append}
-use lib.Seq.{getD-append-seam, getD-set-same, getD-set-other, ext-getD}
-use borrow.Author.Tests.{eq-eqb, ne-eqb}
-use Rattle.base.specs.List.{listFrom, replaced, Each, In}
+use lib.ListN.{length, getD, length-append, List·getD-append}
+use lib.Seq.{getD-append-seam, ext-getD}
+use Rattle.base.specs.List.{listFrom, Each, In}
 use Rattle.base.proofs.Split.{by-eq}
 
 -- The list of f 0 to f (n - 1) has length n.
@@ -39,27 +38,6 @@ list-same f g (suc n) e = rw (list-same f g n (λ i l. e i (omega arith)), e n (
 pub list-back : {A : Type 0} (xs : List A) (d : A) → listFrom (λ i. getD xs i d) (length xs) ≡ xs
 list-back xs d = ext-getD d (listFrom (λ i. getD xs i d) (length xs)) xs (length-list (λ i. getD xs i d) (length xs))
     (λ i l. list-at (λ i. getD xs i d) (length xs) i d (omega (arith, length-list (λ i. getD xs i d) (length xs))))
-
--- A function with x at place j gives x there, and elsewhere what it gave.
-pub replaced-same : {A : Type 0} (j : ℕ) (x : A) (f : ℕ → A) → replaced j x f j ≡ x
-unfolding replaced
-replaced-same j x f = rw (eq-eqb j j refl)
-
-pub replaced-other : {A : Type 0} (j : ℕ) (x : A) (f : ℕ → A) (k : ℕ) → (k ≡ j → ⊥) → replaced j x f k ≡ f k
-unfolding replaced
-replaced-other j x f k n = rw (ne-eqb k j n)
-
--- A list by index with one element set is the list by index with that element in its place.
-pub list-set : {A : Type 0} (f : ℕ → A) (n j : ℕ) (x : A) → set (listFrom f n) j x ≡ listFrom (replaced j x f) n
-list-set f n j x = ext-getD x (set (listFrom f n) j x) (listFrom (replaced j x f) n) (size ∙ sym (length-list (replaced j x f) n))
-    (λ i l. let m : i < n = omega (arith, size) in
-    by-eq i j (getD (set (listFrom f n) j x) i x ≡ getD (listFrom (replaced j x f) n) i x)
-    (λ e. let lj : j < length (listFrom f n) = omega (arith, length-list f n) in
-    rw e (getD-set-same (listFrom f n) j x x lj ∙ sym (list-at (replaced j x f) n j x (omega arith) ∙ replaced-same j x f)))
-    (λ u. getD-set-other (listFrom f n) j i x x u ∙ list-at f n i x m ∙ sym (list-at (replaced j x f) n i x m ∙ replaced-other j x f i u)))
-  where
-    size : length (set (listFrom f n) j x) ≡ n
-    size = length-set (listFrom f n) j x ∙ length-list f n
 
 -- What each element of a list has, any one of them has.
 pub each-says : {A : Type 0} (P : A → Type 0) (x : A) (xs : List A) → Each P xs → In x xs → P x

@@ -3,17 +3,11 @@ use Prim.Native.Nat.{ℕ, zero, suc}
 use mathlib.Core.Path.{_≡_}
 use mathlib.Core.Logic.{_⊎_}
 use mathlib.Core.List.{List, [], _∷_, _++_}
-use mathlib.Core.Bool.{cond}
-use lib.Dec.{eqb}
 
 -- `listFrom` is the list of f 0 to f (n - 1).
 unfoldable pub listFrom : {A : Type 0} → (ℕ → A) → ℕ → List A
 listFrom f zero = []
 listFrom f (suc n) = listFrom f n ++ f n ∷ []
-
--- `replaced` is f with x at place j.
-unfoldable pub replaced : {A : Type 0} → ℕ → A → (ℕ → A) → ℕ → A
-replaced j x f k = cond (eqb k j) x (f k)
 
 -- P holds of each element of the list.
 unfoldable pub Each : {A : Type 0} → (A → Type 0) → List A → Type 0

@@ -1,4 +1,5 @@
--- The rules that are checked for refusal 6 (RULES 4 and 8.2) are defined here, of a state's head, of one place and of a tally.
+-- The rules that are checked for refusal 6 (RULES 4 and 8.2) are defined here, of a state's head, of one place and of a
+-- tally.
 use Prim.Native.Nat.{ℕ, _+_}
 use mathlib.Core.Bool.{Bool, true, false, cond, _&&_}
 use lib.Dec.{leb, ltb, eqb}

@@ -1,9 +1,9 @@
--- What a tick is made of is defined here (RULES 7): the slot, which job may run, what a run leaves and which count is raised.
+-- What a tick is made of is defined here (RULES 7): the slot, which job may run, what a run leaves and which count is
+-- raised.
 use Prim.Native.Nat.{ℕ, _+_, _-_, _%_}
 use mathlib.Core.Bool.{Bool, false, cond}
 use lib.Dec.{leb, ltb}
 use Rattle.theory.specs.Rules.{ready}
-use Rattle.table.specs.declared.Refusal.the-variants as refusal
 use Rattle.decisions.specs.declared.Job.{Job}
 use Rattle.decisions.specs.declared.Job.the-variants.{Resting, Working}
 use Rattle.decisions.specs.declared.Entry.{Entry}

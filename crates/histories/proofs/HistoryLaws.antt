@@ -7,7 +7,7 @@ use mathlib.Core.List.{List, [], _∷_}
 use mathlib.Core.Bool.{Bool, true, false, cond}
 use native.Mathlib.Omega.{arith}
 use lib.Dec.{leb}
-use borrow.Author.Tests.{leb-false, leb-true, eq-eqb}
+use borrow.Author.Tests.{leb-false, leb-true}
 use Rattle.base.specs.Sum.{sumTo, plusAt}
 use Rattle.base.specs.List.{Each}
 use Rattle.base.specs.Fold.{folded}
@@ -25,15 +25,14 @@ use Rattle.decisions.specs.declared.Tally.{Tally}
 use Rattle.scheduler.specs.declared.Ticked.the-variants as ticked
 use Rattle.decisions.specs.declared.Answer.{Answer}
 use Rattle.decisions.specs.declared.Answer.the-variants.{Accepted, Refused}
-use Rattle.decisions.specs.Fits.{clockEnd, total, tallyFits}
-use Rattle.scheduler.specs.States.{headOf, entryIn, stateFits}
+use Rattle.decisions.specs.Fits.{clockEnd, total}
+use Rattle.scheduler.specs.States.{headOf, entryIn}
 use Rattle.scheduler.specs.Lawful.{Lawful-state}
 use Rattle.scheduler.specs.Starts.{Given, freshState}
 use Rattle.scheduler.specs.Releases.{releaseAnswer, releasedEntry, releasedState}
 use Rattle.decisions.specs.Ticks.{mayRun, workedJob, workedOf, countOf}
 use Rattle.scheduler.specs.Steps.{firstReady, tickOf, afterRun, afterTick, raised, stepOf}
 use Rattle.histories.specs.History.{Call, release, step, lend, Own, Past, ran, next, after, begun, workLeft, leftIn}
-use Rattle.scheduler.proofs.StateLaws.{says-fits}
 use Rattle.scheduler.proofs.PlaceLaws.{Sized, One-place, Keeps, keeps-lawful}
 use Rattle.scheduler.proofs.ReleaseLaws.{Free-task, accepted-says, release-place}
 use Rattle.scheduler.proofs.TickLaws.{first-says, Tick-is, slots, runs, tails, tick-is, run-place, after-lawful}
@@ -215,13 +214,6 @@ history-kept g n calls e = kept-after (begun (freshState g n)) calls (kept-begun
 
 pub history-counted : (g : Given) (n : ℕ) (calls : List Call) → readOf (g .table) ≡ read.Sound n → Each Own calls → Counted (after (begun (freshState g n)) calls)
 history-counted g n calls e own = counted-after (begun (freshState g n)) calls own (kept-begun g n e) (counted-begun g n)
-
--- A history keeps the rules of its state, and of its own tally where no other was lent, so that no call gets 6.
-pub state-fits : (p : Past) → Kept p → stateFits (p .state) ≡ true
-state-fits p K = says-fits (p .state) (K .lawful-state)
-
-pub own-fits : (p : Past) → Counted p → tallyFits (p .tally) (p .state .clock) ≡ true
-own-fits p C = eq-eqb _ _ (C .counted)
 
 -- The accounts of a history balance: run ticks and all work left are the accepted demands.
 pub accounts : (p : Past) → Kept p → Counted p → p .tally .run + sumTo places (leftIn (p .state)) ≡ sumTo places (p .demands)

@@ -4,7 +4,7 @@
 -- `decisions::energy` give as their whole results. In a state s the clock t is `s .clock`, H is `s .sleep .period` and
 -- S is `s .sleep .work`.
 use Prim.Native.Nat.{ℕ, _+_, _*_, _/_, _%_, _≤_, _<_}
-use mathlib.Core.Path.{_≡_, refl, ap}
+use mathlib.Core.Path.{_≡_, ap}
 use mathlib.Core.Logic.{_↔_}
 use mathlib.Core.List.{List}
 use native.Mathlib.Omega.{arith}

@@ -1,6 +1,6 @@
--- DEMAND 3 stands here on one page: the record `Demand-3` has the user's words, sentence by sentence, above what we make of
--- them, and `demand-3`, at the end, shows that all of it holds. Between them stand the theorems that it rests on, and
--- some that say more.
+-- DEMAND 3 stands here on one page: the record `Demand-3` has the user's words, sentence by sentence, above what we
+-- make of them, and `demand-3`, at the end, shows that all of it holds. Between them stand the theorems that it rests
+-- on, and some that say more.
 --
 -- A history is any list of calls from `start`, refused ones and steps that lend another tally among them; `g` is what
 -- the start was given. Its `taken` are the accepted releases, its `finishes` the jobs that ran their last unit. Places
@@ -80,10 +80,10 @@ pub record First-failing (g : Given) (n : ℕ) : Type 0 where
   pub late : let t = firstRelease g place + rulesOf (g .table) .T place in At-work (worst g (place + 1) t) place (firstRelease g place) t
 
 pub record Demand-3 (g : Given) (n : ℕ) : Type 0 where
-  -- "From a fresh start on an admitted set, with releases accepted under the spacing rules and until the clock ends, every
-  -- job finishes within its task's response figure, in ticks counted on demand 2's schedule": after any calls, of every
-  -- release that was accepted, once the clock is at least that tick + the figure, the finishes hold that very job, after
-  -- its release and at most the figure after it.
+  -- "From a fresh start on an admitted set, with releases accepted under the spacing rules and until the clock ends,
+  -- every job finishes within its task's response figure, in ticks counted on demand 2's schedule": after any calls, of
+  -- every release that was accepted, once the clock is at least that tick + the figure, the finishes hold that very job,
+  -- after its release and at most the figure after it.
   pub every-job-finishes : Is-admitted g n → (calls : List Call) (j : Taken) → In j (history g calls .taken)
       → j .at + figureOf g (j .place) ≤ history g calls .state .clock
       → Finished (j .at + figureOf g (j .place)) (history g calls .finishes) (j .at) j
@@ -95,12 +95,12 @@ pub record Demand-3 (g : Given) (n : ℕ) : Type 0 where
   -- finish of each task's first job stands in the list at release + figure.
   pub each-figure-is-reached : Is-admitted g n → (i : ℕ) → i < n
       → let t = firstRelease g i + figureOf g i in Finishes-at (worst g n t) i (firstRelease g i) t
-  -- "For a sound set that is not admitted, that pattern, given to the tasks up to the first failing one, leaves that task's
-  -- first job unfinished at its period."
+  -- "For a sound set that is not admitted, that pattern, given to the tasks up to the first failing one, leaves that
+  -- task's first job unfinished at its period."
   pub not-admitted-is-late : Sound-table (g .table) n → (Is-admitted g n → ⊥) → First-failing g n
-  -- "On any sound set, once a tick outside the sleep slot has no work to run, no task runs again before the end of the next
-  -- sleep slot": where a step answered a tail tick, lent any tally t, no step of whatever goes on from the state it left,
-  -- lent any tally u, answers a run before the end of the slot that starts at the first boundary after it.
+  -- "On any sound set, once a tick outside the sleep slot has no work to run, no task runs again before the end of the
+  -- next sleep slot": where a step answered a tail tick, lent any tally t, no step of whatever goes on from the state it
+  -- left, lent any tally u, answers a run before the end of the slot that starts at the first boundary after it.
   pub tail-rests : Sound-table (g .table) n → (before between : List Call) (p : Past) (t u : Tally) (k : ℕ)
       → stepOf (history g before .state) t .answer ≡ ticked.Tick Tail → p .state ≡ stepOf (history g before .state) t .state
       → stepOf (after p between .state) u .answer ≡ ticked.Tick (Run k)

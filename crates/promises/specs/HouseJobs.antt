@@ -1,6 +1,6 @@
 -- That every job finishes and that each figure is reached is used here on the house table with all hypotheses met. By
 -- computation, under the worst pattern up to tick 30 its finishes are exactly task 1's at 30.
-use Prim.Native.Nat.{ℕ, _≤_, _<_}
+use Prim.Native.Nat.{_≤_}
 use mathlib.Core.Path.{_≡_, refl}
 use mathlib.Core.Logic.{inl, inr}
 use mathlib.Core.List.{List, [], _∷_, _++_}

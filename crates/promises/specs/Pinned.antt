@@ -1,9 +1,9 @@
--- What no theorem can see: numbers, answers and the order of words, held against literal numbers. A definition that is wrong
--- together with its code is refused here.
+-- What no theorem can see: numbers, answers and the order of words, held against literal numbers. A definition that is
+-- wrong together with its code is refused here.
 use Prim.Native.Nat.{ℕ}
 use mathlib.Core.Path.{_≡_, refl}
 use mathlib.Core.Bool.{Bool, true, false}
-use mathlib.Core.List.{List, [], _∷_, _++_}
+use mathlib.Core.List.{[], _∷_, _++_}
 use lib.ListN.{replicate, set}
 use Rattle.base.specs.First.{firstFrom}
 use Rattle.base.specs.Sum.{sumTo}
@@ -12,7 +12,6 @@ use Rattle.base.specs.List.{listFrom}
 use Rattle.theory.specs.Round.{ceil}
 use Rattle.theory.specs.Rules.{demand}
 use Rattle.theory.specs.Rounds.{rounds, outcome}
-use Rattle.table.specs.declared.Record.{Record}
 use Rattle.table.specs.declared.Refusal.the-variants.{Length, Broken, Falling, Sleep, NoWindow, Unfit, ClockEnd, NoTask, Demand, OffBoundary, Working, Early, Power}
 use Rattle.table.specs.declared.Told.{Told}
 use Rattle.table.specs.Bytes.{wordAt, recordAt}
@@ -23,7 +22,6 @@ use Rattle.admission.specs.declared.Answer.the-variants.{Admitted}
 use Rattle.admission.specs.Verdicts.{verdict, walkFrom, zeros}
 use Rattle.decisions.specs.declared.Job.the-variants as job
 use Rattle.decisions.specs.declared.Last.the-variants as last
-use Rattle.decisions.specs.declared.Entry.{Entry}
 use Rattle.scheduler.specs.declared.State.{State}
 use Rattle.decisions.specs.declared.Tick.the-variants.{Run, Slot, Tail}
 use Rattle.decisions.specs.Fits.{clockEnd, noEntry}
@@ -31,7 +29,7 @@ use Rattle.decisions.specs.Energies.{powerMost}
 use Rattle.scheduler.specs.States.{recordIn, periodBefore, stateFits}
 use Rattle.scheduler.specs.Steps.{stepOf}
 use Rattle.node.specs.Layout.{placesWords, stateWords, tallyWords, verdictWords, encoded}
-use Rattle.node.specs.Calls.{packed, toldAnswer, tickAnswer, admitOn, startOn, releaseOn, stepOn, energyOn}
+use Rattle.node.specs.Calls.{toldAnswer, tickAnswer, admitOn, startOn, releaseOn, stepOn, energyOn}
 use Rattle.promises.specs.Cases.{_per_, bytesOf}
 
 -- A refusal is written here as its number, the record or task that comes back with it, and the rounds spent.
@@ -53,8 +51,8 @@ pub energy-is-packed : energyOn (11 ∷ 16 ∷ 13 ∷ []) 23000 16 ≡ 64886784
 unfolding energyOn
 energy-is-packed = refl
 
--- A state's words stand in this order: the sleep record, n and the clock; then by place label, work, period, reserved, 1 at
--- work with its release and what is left, 1 released with that tick.
+-- A state's words stand in this order: the sleep record, n and the clock; then by place label, work, period, reserved,
+-- 1 at work with its release and what is left, 1 released with that tick.
 abbrev two : State
 two = record {
   sleep = record { label = 10; work = 8; period = 20; reserved = 0 };

@@ -1,7 +1,7 @@
 -- A state may lie in 32-bit words, for firmware: it is read back, called on and stopped in between. The calls of crate
 -- `node` are given by `admitOn`, `startOn`, `releaseOn`, `stepOn` and `energyOn` of its specs/Calls.antt; that a refused
 -- one leaves every word is in Demand1.antt.
-use Prim.Native.Nat.{ℕ, _+_, _*_, _/_, _%_, _<_, _≤_}
+use Prim.Native.Nat.{ℕ, _+_, _*_, _/_, _%_, _<_}
 use mathlib.Core.Path.{_≡_, refl, sym, _∙_, ap}
 use mathlib.Core.List.{List, _++_}
 use mathlib.Core.Bool.{true}

@@ -3,7 +3,6 @@ use Prim.Native.Nat.{ℕ, _+_, _-_, _≤_, _<_}
 use mathlib.Core.Bool.{cond}
 use Rattle.base.specs.First.{firstFrom}
 use Rattle.table.specs.declared.Refusal.{Refusal}
-use Rattle.table.specs.declared.Refusal.the-variants as refusal
 use Rattle.scheduler.specs.declared.State.{State}
 use Rattle.decisions.specs.declared.Tally.{Tally}
 use Rattle.decisions.specs.declared.Count.{Count}
