@@ -84,13 +84,13 @@ fn rust_step_words(state: &mut StateWords, tally: &mut TallyWords) -> u64 {
 }
 
 #[inline(never)]
-fn rust_energy(tally: &Tally, run_power: u32, sleep_power: u32) -> Result<u64, u32> {
-    model::energy(tally, run_power, sleep_power)
+fn rust_energy(tally: &Tally, run: u32, sleep: u32, waking: u32) -> Result<u64, u32> {
+    model::energy(tally, run, sleep, waking)
 }
 
 #[inline(never)]
-fn rust_energy_words(tally: &TallyWords, run_power: u32, sleep_power: u32) -> u64 {
-    model::energy_words(tally, run_power, sleep_power)
+fn rust_energy_words(tally: &TallyWords, run: u32, sleep: u32, waking: u32) -> u64 {
+    model::energy_words(tally, run, sleep, waking)
 }
 
 /// Many steps inside one call.
@@ -103,11 +103,11 @@ fn rust_steps(state: &mut State, tally: &mut Tally, count: u32) -> Result<Tick, 
     last
 }
 
-/// A start and many steps inside one call; the slot and the tail ticks.
+/// A start with no waking and many steps inside one call; the slot and the tail ticks.
 #[inline(never)]
 fn rust_steps_from_start(table: &[u8], count: u32) -> u64 {
     let mut tally = Tally::default();
-    let mut state = model::start(table).unwrap();
+    let mut state = model::start(table, 0).unwrap();
     for _ in 0..count {
         let _ = state.step(&mut tally);
     }
@@ -198,14 +198,15 @@ struct Both {
 }
 
 impl Both {
-    fn start(table: &[u8]) -> Both {
+    fn start(table: &[u8], waking: u32) -> Both {
         let mut both = Both {
             words: [0; STATE_WORDS],
             tally_words: [0; TALLY_WORDS],
-            state: model::start(table).unwrap(),
+            state: model::start(table, waking).unwrap(),
             tally: Tally::default(),
         };
-        assert_eq!(node::start(table, &mut both.words).0, 0, "start");
+        let answer = node::start(table, waking, &mut both.words).0;
+        assert_eq!(answer, 0, "start");
         both.agree();
         both
     }
@@ -249,19 +250,22 @@ impl Ends {
     }
 }
 
+/// Waking is a slot tick that counts as waking.
 #[derive(Clone, Copy, PartialEq)]
 enum Kind {
     Slot,
+    Waking,
     Run,
     Tail,
 }
 
 impl Kind {
-    const ALL: [Kind; 3] = [Kind::Slot, Kind::Run, Kind::Tail];
+    const ALL: [Kind; 4] = [Kind::Slot, Kind::Waking, Kind::Run, Kind::Tail];
 
     fn name(self) -> &'static str {
         match self {
             Kind::Slot => "slot",
+            Kind::Waking => "waking",
             Kind::Run => "run",
             Kind::Tail => "tail",
         }
@@ -269,19 +273,26 @@ impl Kind {
 
     /// A table whose ticks are of this kind for more than a stretch.
     fn table(self, n: u32) -> Vec<u8> {
-        let sleep = if self == Kind::Slot { 59_999 } else { 1 };
+        let asleep = [Kind::Slot, Kind::Waking].contains(&self);
+        let sleep = if asleep { 59_999 } else { 1 };
         let last = if self == Kind::Run { 50_000 } else { 1 };
         let tasks = (1..=n).map(|task| (if task == n { last } else { 1 }, 60_000));
         let records = [(sleep, 60_000)].into_iter().chain(tasks);
         table(&records.collect::<Vec<_>>())
     }
 
-    /// A stretch of ticks of this kind, and the answer of each. In slot and tail nothing was
-    /// released; in run all tasks were, the last is at work and the others have done theirs.
+    /// A start on that table.
+    fn start(self, n: u32) -> Both {
+        let waking = if self == Kind::Waking { 59_999 } else { 1 };
+        Both::start(&self.table(n), waking)
+    }
+
+    /// A stretch of ticks of this kind, and the answer of each. In run all tasks were released, the
+    /// last is at work and the others have done theirs; in the other kinds nothing was released.
     fn stretch(self, n: u32) -> (Ends, u64) {
-        let mut at = Both::start(&self.table(n));
+        let mut at = self.start(n);
         let (before, answer) = match self {
-            Kind::Slot => (0, 1 << 8),
+            Kind::Slot | Kind::Waking => (0, 1 << 8),
             Kind::Run => (n, u64::from(n) << 16),
             Kind::Tail => (1, 2 << 8),
         };
@@ -298,6 +309,9 @@ impl Kind {
         for _ in 0..STRETCH {
             assert_eq!(at.step(), answer, "a tick of another kind");
         }
+        let waking = at.tally.waking - from.tally.waking;
+        let expected = if self == Kind::Waking { STRETCH } else { 0 };
+        assert_eq!(waking, expected, "waking ticks");
         (Ends { from, to: at }, answer)
     }
 }
@@ -467,7 +481,7 @@ fn admission_of(table: Vec<u8>, turns: u32) -> Row {
 
 /// A state at clock 0 with n tasks: none released, and all.
 fn around_release(n: u32) -> Ends {
-    let from = Both::start(&Kind::Tail.table(n));
+    let from = Kind::Tail.start(n);
     let mut to = from.clone();
     for task in 1..=n {
         assert_eq!(to.release(task, 1), 0, "not accepted");
@@ -591,9 +605,10 @@ fn step_by_value(kind: Kind, n: u32) -> Row {
     Row::new(kind_of(kind, n), vec![ours, rust])
 }
 
-/// The house table under the worst pattern, releases and steps; timed by the tick.
+/// The house table under the worst pattern, releases and steps, two ticks of a slot waking; timed
+/// by the tick.
 fn mixed() -> Row {
-    let from = Both::start(&table(&HOUSE));
+    let from = Both::start(&table(&HOUSE), 2);
     let mut to = from.clone();
     // The calls in their order: the task and demand of a release, or 0 and 0 for a step.
     let mut calls = Vec::new();
@@ -647,36 +662,36 @@ fn energy() -> Row {
     let mut structs = Vec::new();
     let mut words = Vec::new();
     for i in 1..=64 {
-        let [run, slot, tail] = [7, 5, 3].map(|part| part * i * 400_009);
-        let tally = Tally { run, slot, tail };
-        let (run_power, sleep_power) = (i * 15_013, i * 16);
-        let nanojoules = model::energy(&tally, run_power, sleep_power).expect("accepted");
-        let answer = node::energy(&tally.to_words(), run_power, sleep_power).0;
+        let counts: TallyWords = [7, 5, 3, 1].map(|part| part * i * 400_009);
+        let tally = Tally::from_words(&counts).unwrap();
+        let powers = [15_013, 16, 9_001].map(|part| part * i);
+        let [run, sleep, waking] = powers;
+        let nanojoules = model::energy(&tally, run, sleep, waking).expect("accepted");
+        let answer = node::energy(&counts, run, sleep, waking).0;
         assert_eq!(answer, nanojoules << 8, "energy");
-        structs.push((tally, run_power, sleep_power));
-        words.push((tally.to_words(), run_power, sleep_power));
+        structs.push((tally, powers));
+        words.push((counts, powers));
     }
     let calls = TURNS * structs.len() as u32;
     let words = [words.clone(), words];
     let ours = Way::new(calls, words.clone(), |readings| {
         for _ in 0..TURNS {
-            for (tally, run_power, sleep_power) in readings.iter() {
-                used(node::energy(black_box(tally), *run_power, *sleep_power));
+            for (tally, [run, sleep, waking]) in readings.iter() {
+                used(node::energy(black_box(tally), *run, *sleep, *waking));
             }
         }
     });
     let rust = Way::new(calls, [structs.clone(), structs], |readings| {
         for _ in 0..TURNS {
-            for (tally, run_power, sleep_power) in readings.iter() {
-                used(rust_energy(black_box(tally), *run_power, *sleep_power));
+            for (tally, [run, sleep, waking]) in readings.iter() {
+                used(rust_energy(black_box(tally), *run, *sleep, *waking));
             }
         }
     });
     let on_words = Way::new(calls, words, |readings| {
         for _ in 0..TURNS {
-            for (tally, run_power, sleep_power) in readings.iter() {
-                let tally = black_box(tally);
-                used(rust_energy_words(tally, *run_power, *sleep_power));
+            for (tally, [run, sleep, waking]) in readings.iter() {
+                used(rust_energy_words(black_box(tally), *run, *sleep, *waking));
             }
         }
     });

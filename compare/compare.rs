@@ -23,11 +23,13 @@ extern "C" {
 // ---- Both sides, and the counts ----
 
 /// What is counted apart.
-const KINDS: [&str; 8] = [
+const KINDS: [&str; 10] = [
     "step: run of task 1",
     "step: run of a lower task",
-    "step: slot",
+    "step: slot, counted as slot",
     "step: tail",
+    "step: slot, counted as waking",
+    "start: refusal 6 where 14 applies too",
     "admitted, at least 5 rounds on a task",
     "admitted, at least 20 rounds on a task",
     "refusal 5 after at least 5 rounds",
@@ -105,9 +107,9 @@ struct Both {
     words: [Room<u32>; 2],
     /// The call under way, for the report.
     call: Call,
-    numbers: [u32; 2],
+    numbers: [u32; 3],
     /// By call and refusal number, 0 where accepted.
-    counts: [[u64; 14]; 5],
+    counts: [[u64; 15]; 5],
     kinds: [u64; KINDS.len()],
     most_rounds: u32,
 }
@@ -120,8 +122,8 @@ impl Both {
             table: Room::default(),
             words: Default::default(),
             call: Call::Admit,
-            numbers: [0; 2],
-            counts: [[0; 14]; 5],
+            numbers: [0; 3],
+            counts: [[0; 15]; 5],
             kinds: [0; KINDS.len()],
             most_rounds: 0,
         }
@@ -130,13 +132,13 @@ impl Both {
 
 impl Calls for Both {
     fn admit(&mut self, table: &[u8], verdict: &mut [u32]) {
-        let (t, [v, _]) = self.lend(Call::Admit, Lent(table, [verdict, &[]]), [0, 0]);
+        let (t, [v, _]) = self.lend(Call::Admit, Lent(table, [verdict, &[]]), [0; 3]);
         let archive = unsafe { node_admit(t, length(table), v, length(verdict)) };
         let model = model::admit_words(table, verdict);
         self.judge(Lent(table, [verdict, &[]]), archive, model);
         let (kind, rounds) = match model & 0xff {
-            0 => (4, verdict[32..].iter().copied().max().unwrap()),
-            5 => (6, (model >> 16) as u32),
+            0 => (6, verdict[32..].iter().copied().max().unwrap()),
+            5 => (8, (model >> 16) as u32),
             _ => return,
         };
         self.kinds[kind] += u64::from(rounds >= 5);
@@ -144,43 +146,46 @@ impl Calls for Both {
         self.most_rounds = self.most_rounds.max(rounds);
     }
 
-    fn start(&mut self, table: &[u8], state: &mut [u32]) {
-        let (t, [s, _]) = self.lend(Call::Start, Lent(table, [state, &[]]), [0, 0]);
-        let archive = unsafe { node_start(t, length(table), s, length(state)) };
-        let model = model::start_words(table, state);
+    fn start(&mut self, table: &[u8], waking: u32, state: &mut [u32]) {
+        let (t, [s, _]) = self.lend(Call::Start, Lent(table, [state, &[]]), [waking, 0, 0]);
+        let archive = unsafe { node_start(t, length(table), waking, s, length(state)) };
+        let model = model::start_words(table, waking, state);
         self.judge(Lent(table, [state, &[]]), archive, model);
+        self.kinds[5] += u64::from(model == 6 && model::start(table, waking).is_err());
     }
 
     fn release(&mut self, state: &mut [u32], task: u32, demand: u32) {
-        let (_, [s, _]) = self.lend(Call::Release, Lent(&[], [state, &[]]), [task, demand]);
+        let (_, [s, _]) = self.lend(Call::Release, Lent(&[], [state, &[]]), [task, demand, 0]);
         let archive = unsafe { node_release(s, length(state), task, demand) };
         let model = model::release_words(state, task, demand);
         self.judge(Lent(&[], [state, &[]]), archive, model);
     }
 
     fn step(&mut self, state: &mut [u32], tally: &mut [u32]) {
-        let (_, [s, y]) = self.lend(Call::Step, Lent(&[], [state, tally]), [0, 0]);
+        let (_, [s, y]) = self.lend(Call::Step, Lent(&[], [state, tally]), [0; 3]);
         let archive = unsafe { node_step(s, length(state), y, length(tally)) };
         let model = model::step_words(state, tally);
         self.judge(Lent(&[], [state, tally]), archive, model);
         match (model & 0xff, model >> 8 & 0xff, model >> 16) {
             (0, 0, 1) => self.kinds[0] += 1,
+            (0, 1, _) if tally[3] != self.words[1].given[3] => self.kinds[4] += 1,
             (0, kind, _) => self.kinds[1 + kind as usize] += 1,
             _ => {}
         }
     }
 
-    fn energy(&mut self, tally: &[u32], run_power: u32, sleep_power: u32) {
-        let lent = Lent(&[], [tally, &[]]);
-        let (_, [y, _]) = self.lend(Call::Energy, lent, [run_power, sleep_power]);
-        let archive = unsafe { node_energy(y, length(tally), run_power, sleep_power) };
-        let model = model::energy_words(tally, run_power, sleep_power);
+    fn energy(&mut self, tally: &[u32], run_power: u32, sleep_power: u32, waking_power: u32) {
+        let (lent, words) = (Lent(&[], [tally, &[]]), length(tally));
+        let powers = [run_power, sleep_power, waking_power];
+        let (_, [y, _]) = self.lend(Call::Energy, lent, powers);
+        let archive = unsafe { node_energy(y, words, run_power, sleep_power, waking_power) };
+        let model = model::energy_words(tally, run_power, sleep_power, waking_power);
         self.judge(Lent(&[], [tally, &[]]), archive, model);
     }
 }
 
 impl Both {
-    fn lend(&mut self, call: Call, given: Lent, numbers: [u32; 2]) -> (*mut u8, [*mut u32; 2]) {
+    fn lend(&mut self, call: Call, given: Lent, numbers: [u32; 3]) -> (*mut u8, [*mut u32; 2]) {
         self.calls += 1;
         self.call = call;
         self.numbers = numbers;
@@ -259,7 +264,7 @@ fn print_counts(both: &Both) {
         "accepted".into(),
         both.counts.map(|counts| counts[0].to_string()),
     );
-    for number in 1..14 {
+    for number in 1..15 {
         let cell = |call: usize| match ABOUT[call].refusals.contains(&number) {
             true => both.counts[call][number].to_string(),
             false => "-".into(),
@@ -336,5 +341,5 @@ fn main() {
         exit(1);
     }
     let calls = both.calls;
-    println!("no difference in {calls} calls; every refusal number 1 to 13 seen");
+    println!("no difference in {calls} calls; every refusal number 1 to 14 seen");
 }

@@ -33,23 +33,23 @@ pub struct About {
 pub const ABOUT: [About; 5] = [
     About { name: "admit", table: true, words: &["verdict"], numbers: &[],
             refusals: &[1, 2, 3, 4, 5, 6] },
-    About { name: "start", table: true, words: &["state"], numbers: &[],
-            refusals: &[1, 2, 3, 4, 6] },
+    About { name: "start", table: true, words: &["state"], numbers: &["waking"],
+            refusals: &[1, 2, 3, 4, 6, 14] },
     About { name: "release", table: false, words: &["state"], numbers: &["task", "demand"],
             refusals: &[6, 7, 8, 9, 10, 11, 12] },
     About { name: "step", table: false, words: &["state", "tally"], numbers: &[],
             refusals: &[6, 7] },
-    About { name: "energy", table: false, words: &["tally"], numbers: &["run power", "sleep power"],
-            refusals: &[6, 13] },
+    About { name: "energy", table: false, words: &["tally"],
+            numbers: &["run power", "sleep power", "waking power"], refusals: &[6, 13] },
 ];
 
 /// Makes the calls. It leaves in the buffers what the model leaves, so that a history goes on.
 pub trait Calls {
     fn admit(&mut self, table: &[u8], verdict: &mut [u32]);
-    fn start(&mut self, table: &[u8], state: &mut [u32]);
+    fn start(&mut self, table: &[u8], waking: u32, state: &mut [u32]);
     fn release(&mut self, state: &mut [u32], task: u32, demand: u32);
     fn step(&mut self, state: &mut [u32], tally: &mut [u32]);
-    fn energy(&mut self, tally: &[u32], run_power: u32, sleep_power: u32);
+    fn energy(&mut self, tally: &[u32], run_power: u32, sleep_power: u32, waking_power: u32);
 }
 
 const END: u32 = 1_000_000_000;
@@ -115,7 +115,7 @@ impl Random {
             4..=9 => self.index(700),
             10..=19 => own + self.pick(&[1, 2, 9]),
             20..=29 => own - self.pick(&[1, 2]),
-            _ => self.pick(&[0, 3, 12, 48, 150, 192, 600]),
+            _ => self.pick(&[0, 4, 16, 48, 151, 192, 604]),
         }
     }
 
@@ -261,6 +261,28 @@ fn damage(random: &mut Random, table: &mut Vec<u8>) {
     set_word(table, at, value);
 }
 
+/// A waking length from 0 to S, often at an edge.
+fn lawful_waking(random: &mut Random, s: u32) -> u32 {
+    let inside = random.among(0, s);
+    random.pick(&[0, 1, s - 1, s, inside, inside])
+}
+
+/// One for a table of any bytes: lawful or not, S and H taken from where they would stand.
+fn any_waking(random: &mut Random, table: &[u8]) -> u32 {
+    let [s, h] = match table.len() {
+        0..=11 => [1, 2],
+        _ => [1, 2].map(|at| word(table, at)),
+    };
+    match random.below(10) {
+        0 => random.pick(&[0, 1]),
+        1..=3 => random.near(s),
+        4 => random.near(h),
+        5 => random.spoiled(s, h),
+        6 => random.pick(&[1 << 31, u32::MAX, s | 1 << 31]),
+        _ => random.below(s.saturating_add(1)),
+    }
+}
+
 fn tables(random: &mut Random, calls: &mut impl Calls) {
     for _ in 0..60 {
         let mut set = sound_set(random);
@@ -278,7 +300,8 @@ fn tables(random: &mut Random, calls: &mut impl Calls) {
         }
         calls.admit(&table, &mut random.buffer(VERDICT_WORDS));
         if random.chance(40) {
-            calls.start(&table, &mut random.buffer(STATE_WORDS));
+            let waking = any_waking(random, &table);
+            calls.start(&table, waking, &mut random.buffer(STATE_WORDS));
         }
     }
 }
@@ -286,9 +309,11 @@ fn tables(random: &mut Random, calls: &mut impl Calls) {
 // ---- Histories ----
 
 // Where the words of a state stand, and from place(i) on those of an entry.
+const S: usize = 1;
 const H: usize = 2;
 const N: usize = 4;
 const CLOCK: usize = 5;
+const WAKING: usize = 6;
 const WORK: usize = 1;
 const PERIOD: usize = 2;
 const JOB: usize = 4;
@@ -296,7 +321,7 @@ const BEFORE: usize = 7;
 const LAST: usize = 8;
 
 fn place(i: usize) -> usize {
-    6 + 9 * i
+    7 + 9 * i
 }
 
 #[derive(Clone)]
@@ -360,12 +385,15 @@ fn jump(random: &mut Random, node: &mut Node) {
     let some = place(random.below(n) as usize);
     let due = node.state[some + LAST] + node.state[some + PERIOD];
     let boundary = clock - clock % h + h * random.among(1, 3);
-    let to = match random.below(12) {
+    let [s, waking] = [S, WAKING].map(|at| node.state[at]);
+    let to = match random.below(15) {
         0 => END - random.below(2 * h + 3),
         1 => END - random.below(3),
         2 => random.among(clock, END),
         3..=5 => random.near(due),
         6..=8 => random.near(boundary),
+        9..=10 => random.near(boundary + s - waking),
+        11 => random.near(boundary + s),
         _ => clock + random.below(3 * h),
     };
     let to = to.clamp(clock, END);
@@ -405,7 +433,8 @@ fn history(random: &mut Random, calls: &mut impl Calls) -> Node {
         state: random.words(STATE_WORDS),
         tally: vec![0; TALLY_WORDS],
     };
-    calls.start(&bytes_of(&set), &mut node.state);
+    let waking = lawful_waking(random, set[0][1]);
+    calls.start(&bytes_of(&set), waking, &mut node.state);
     let n = set.len() - 1;
     let eager = random.pick(&[5, 30, 90]);
     let jumps = random.pick(&[0, 1, 6]);
@@ -458,7 +487,7 @@ fn spoil(random: &mut Random, calls: &mut impl Calls, node: &Node) {
     let mut spoiled = node.clone();
     let [clock, h, n] = [CLOCK, H, N].map(|at| node.state[at]);
     let other = random.pick(&node.state);
-    match random.below(16) {
+    match random.below(17) {
         0..=4 => {
             let at = random.index(STATE_WORDS);
             spoiled.state[at] = random.spoiled(node.state[at], other);
@@ -494,9 +523,9 @@ fn spoil(random: &mut Random, calls: &mut impl Calls, node: &Node) {
             spoiled.settle(random);
         }
         10 => {
-            let at = random.index(TALLY_WORDS - 1);
-            spoiled.tally[at] = random.word() | 1 << 31;
-            spoiled.tally[at + 1] = random.word();
+            for at in random.index(TALLY_WORDS - 1)..TALLY_WORDS {
+                spoiled.tally[at] = random.word() | random.below(2) << 31;
+            }
             spoiled.settle(random);
         }
         11 => {
@@ -519,6 +548,16 @@ fn spoil(random: &mut Random, calls: &mut impl Calls, node: &Node) {
         14 => {
             let len = random.other_length(TALLY_WORDS);
             spoiled.tally.resize(len, 0);
+        }
+        // The waking length, or the sleep time below it.
+        15 => {
+            let [s, waking] = [S, WAKING].map(|at| node.state[at]);
+            let long = [s, s + 1, h, s | 1 << 31, u32::MAX, random.word()];
+            match random.below(3) {
+                0 => spoiled.state[WAKING] = random.near(s),
+                1 => spoiled.state[WAKING] = random.pick(&long),
+                _ => spoiled.state[S] = random.near(waking),
+            }
         }
         _ => match random.below(3) {
             0 => spoiled.state = random.words(STATE_WORDS),
@@ -559,8 +598,8 @@ fn sweep(random: &mut Random, calls: &mut impl Calls, node: &Node) {
 
 // ---- Energy ----
 
-/// Three counts with a chosen sum; where two of them pass it, it is met in 32 bits only.
-fn counts(random: &mut Random) -> [u32; 3] {
+/// Four counts with a chosen sum; where three of them pass it, it is met in 32 bits only.
+fn counts(random: &mut Random) -> [u32; TALLY_WORDS] {
     let sum = match random.below(4) {
         0 => END - 2 + random.below(5),
         1 => random.below(END + 1),
@@ -568,8 +607,9 @@ fn counts(random: &mut Random) -> [u32; 3] {
         _ => random.below(4).wrapping_sub(2),
     };
     let mut left = sum;
-    let mut counts = [0; 3];
-    for count in &mut counts[..2] {
+    let mut counts = [0; TALLY_WORDS];
+    let (last, others) = counts.split_last_mut().unwrap();
+    for count in others {
         *count = match random.below(5) {
             0 => 0,
             1 => left,
@@ -578,8 +618,8 @@ fn counts(random: &mut Random) -> [u32; 3] {
         };
         left = left.wrapping_sub(*count);
     }
-    counts[2] = left;
-    counts.rotate_left(random.index(3));
+    *last = left;
+    counts.rotate_left(random.index(TALLY_WORDS));
     counts
 }
 
@@ -598,7 +638,8 @@ fn energies(random: &mut Random, calls: &mut impl Calls) {
         for (to, count) in tally.iter_mut().zip(counts(random)) {
             *to = count;
         }
-        calls.energy(&tally, power(random), power(random));
+        let [run_power, sleep_power, waking_power] = from_fn(|_| power(random));
+        calls.energy(&tally, run_power, sleep_power, waking_power);
     }
 }
 

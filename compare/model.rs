@@ -9,8 +9,8 @@ use std::array::from_fn;
 const PLACES: usize = 16;
 const CLOCK_END: u32 = 1_000_000_000;
 const MOST_POWER: u32 = 1_000_000;
-pub const STATE_WORDS: usize = 150;
-pub const TALLY_WORDS: usize = 3;
+pub const STATE_WORDS: usize = 151;
+pub const TALLY_WORDS: usize = 4;
 pub const VERDICT_WORDS: usize = 48;
 
 #[derive(Clone, Copy, Debug, Default, PartialEq)]
@@ -49,6 +49,8 @@ pub struct State {
     pub sleep: Record,
     pub n: u32,
     pub clock: u32,
+    /// The waking length V (RULES 8.7).
+    pub waking: u32,
     pub entries: [Entry; PLACES],
 }
 
@@ -57,6 +59,7 @@ pub struct Tally {
     pub run: u32,
     pub slot: u32,
     pub tail: u32,
+    pub waking: u32,
 }
 
 #[derive(Clone, Copy, Debug, PartialEq)]
@@ -161,10 +164,14 @@ impl Verdict {
     }
 }
 
-pub fn start(table: &[u8]) -> Result<State, Refusal> {
+pub fn start(table: &[u8], waking: u32) -> Result<State, Refusal> {
     let (records, count) = read(table)?;
+    if waking > records[0].work {
+        return refuse(14, 0, 0);
+    }
     let mut state = State::default();
     state.sleep = records[0];
+    state.waking = waking;
     state.n = count as u32 - 1;
     for (entry, record) in state.entries.iter_mut().zip(&records[1..count]) {
         entry.record = *record;
@@ -194,7 +201,7 @@ impl State {
         if n < 1 || n > PLACES || self.clock > CLOCK_END {
             return false;
         }
-        if !self.sleep.lawful() || self.sleep.work == h {
+        if !self.sleep.lawful() || self.sleep.work == h || self.waking > self.sleep.work {
             return false;
         }
         let (tasks, spare) = self.entries.split_at(n);
@@ -250,7 +257,11 @@ impl State {
         }
         let since_boundary = self.clock % self.sleep.period;
         let tick = if since_boundary < self.sleep.work {
-            tally.slot += 1;
+            if since_boundary >= self.sleep.work - self.waking {
+                tally.waking += 1;
+            } else {
+                tally.slot += 1;
+            }
             Tick::Slot
         } else if let Some(task) = self.work_off(self.clock - since_boundary) {
             tally.run += 1;
@@ -284,20 +295,26 @@ impl State {
 
 impl Tally {
     fn sum(&self) -> u64 {
-        u64::from(self.run) + u64::from(self.slot) + u64::from(self.tail)
+        self.to_words().map(u64::from).iter().sum()
     }
 }
 
 /// In nanojoules.
-pub fn energy(tally: &Tally, run_power: u32, sleep_power: u32) -> Result<u64, u32> {
+pub fn energy(
+    tally: &Tally,
+    run_power: u32,
+    sleep_power: u32,
+    waking_power: u32,
+) -> Result<u64, u32> {
     if tally.sum() > u64::from(CLOCK_END) {
         return Err(6);
     }
-    if run_power > MOST_POWER || sleep_power > MOST_POWER {
+    if run_power > MOST_POWER || sleep_power > MOST_POWER || waking_power > MOST_POWER {
         return Err(13);
     }
-    let asleep = u64::from(tally.slot + tally.tail);
-    Ok(u64::from(tally.run) * u64::from(run_power) + asleep * u64::from(sleep_power))
+    let at = |ticks: u32, power: u32| u64::from(ticks) * u64::from(power);
+    let asleep = at(tally.slot + tally.tail, sleep_power);
+    Ok(at(tally.run, run_power) + asleep + at(tally.waking, waking_power))
 }
 
 // The layouts of node.h.
@@ -329,7 +346,8 @@ impl State {
         state.sleep = record(words);
         state.n = words[4];
         state.clock = words[5];
-        for (entry, from) in state.entries.iter_mut().zip(words[6..].chunks_exact(9)) {
+        state.waking = words[6];
+        for (entry, from) in state.entries.iter_mut().zip(words[7..].chunks_exact(9)) {
             entry.record = record(from);
             entry.job = match from[4..7] {
                 [0, 0, 0] => Job::Resting,
@@ -350,7 +368,8 @@ impl State {
         words[..4].copy_from_slice(&self.sleep.to_words());
         words[4] = self.n;
         words[5] = self.clock;
-        for (to, entry) in words[6..].chunks_exact_mut(9).zip(&self.entries) {
+        words[6] = self.waking;
+        for (to, entry) in words[7..].chunks_exact_mut(9).zip(&self.entries) {
             to[..4].copy_from_slice(&entry.record.to_words());
             if let Job::Working { release, left } = entry.job {
                 to[4..7].copy_from_slice(&[1, release, left]);
@@ -366,13 +385,14 @@ impl State {
 impl Tally {
     pub fn from_words(words: &[u32]) -> Option<Tally> {
         match *words {
-            [run, slot, tail] => Some(Tally { run, slot, tail }),
+            #[rustfmt::skip]
+            [run, slot, tail, waking] => Some(Tally { run, slot, tail, waking }),
             _ => None,
         }
     }
 
     pub fn to_words(self) -> [u32; TALLY_WORDS] {
-        [self.run, self.slot, self.tail]
+        [self.run, self.slot, self.tail, self.waking]
     }
 }
 
@@ -400,11 +420,13 @@ pub fn admit_words(table: &[u8], verdict: &mut [u32]) -> u64 {
     answer
 }
 
-pub fn start_words(table: &[u8], state: &mut [u32]) -> u64 {
-    match start(table) {
-        Err(refusal) => return refusal.answer(),
-        Ok(_) if state.len() != STATE_WORDS => return 6,
-        Ok(fresh) => state.copy_from_slice(&fresh.to_words()),
+/// The 6 of a state of another length stands after the table's refusals and before 14.
+pub fn start_words(table: &[u8], waking: u32, state: &mut [u32]) -> u64 {
+    let fits = state.len() == STATE_WORDS;
+    match start(table, waking) {
+        Err(refusal) if fits || refusal.number < 6 => return refusal.answer(),
+        Ok(fresh) if fits => state.copy_from_slice(&fresh.to_words()),
+        _ => return 6,
     }
     0
 }
@@ -436,11 +458,13 @@ pub fn step_words(state: &mut [u32], tally: &mut [u32]) -> u64 {
     answer
 }
 
-pub fn energy_words(tally: &[u32], run_power: u32, sleep_power: u32) -> u64 {
-    match Tally::from_words(tally).map(|counts| energy(&counts, run_power, sleep_power)) {
-        None => 6,
-        Some(Err(number)) => u64::from(number),
-        Some(Ok(nanojoules)) => nanojoules << 8,
+pub fn energy_words(tally: &[u32], run_power: u32, sleep_power: u32, waking_power: u32) -> u64 {
+    let Some(counts) = Tally::from_words(tally) else {
+        return 6;
+    };
+    match energy(&counts, run_power, sleep_power, waking_power) {
+        Err(number) => u64::from(number),
+        Ok(nanojoules) => nanojoules << 8,
     }
 }
 
@@ -483,23 +507,32 @@ pub fn cases() {
         }
     }
 
-    let mut state = start(&table(&house(4))).unwrap();
-    let mut tally = Tally::default();
-    let mut ticks = String::new();
-    for t in 0..40 {
-        for task in 1..=4 {
-            if t == if task == 1 { 20 } else { 1 } {
-                let full = state.entries[task as usize - 1].record.work;
-                state.release(task, full).unwrap();
+    // The waking length, the tally, and the energy with a waking power of 9,000.
+    let wakings = [
+        (0, [11, 16, 13, 0], 253_464),
+        (2, [11, 12, 13, 4], 289_400),
+        (8, [11, 0, 13, 16], 397_208),
+    ];
+    for (waking, counts, nanojoules) in wakings {
+        let mut state = start(&table(&house(4)), waking).unwrap();
+        let mut tally = Tally::default();
+        let mut ticks = String::new();
+        for t in 0..40 {
+            for task in 1..=4 {
+                if t == if task == 1 { 20 } else { 1 } {
+                    let full = state.entries[task as usize - 1].record.work;
+                    state.release(task, full).unwrap();
+                }
+            }
+            match state.step(&mut tally).unwrap() {
+                Tick::Run(task) => ticks += &task.to_string(),
+                Tick::Slot => ticks += "s",
+                Tick::Tail => ticks += "-",
             }
         }
-        match state.step(&mut tally).unwrap() {
-            Tick::Run(task) => ticks += &task.to_string(),
-            Tick::Slot => ticks += "s",
-            Tick::Tail => ticks += "-",
-        }
+        assert_eq!(ticks, "ssssssss------------ssssssss11222334444-", "J");
+        assert_eq!(tally.to_words(), counts, "J, waking {waking}");
+        let energy = energy(&tally, 23_000, 16, 9_000);
+        assert_eq!(energy, Ok(nanojoules), "J, waking {waking}");
     }
-    assert_eq!(ticks, "ssssssss------------ssssssss11222334444-", "J");
-    assert_eq!([tally.run, tally.slot, tally.tail], [11, 16, 13], "J");
-    assert_eq!(energy(&tally, 23_000, 16), Ok(253_464), "J");
 }

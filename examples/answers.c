@@ -8,8 +8,8 @@
 
 enum { RECORDS = 3 };
 
-/* Sleep 1 in 2, and two tasks. */
-static const struct node_record set[RECORDS] = {{7, 1, 2}, {8, 1, 4}, {9, 4, 20}};
+/* Sleep 2 in 3, and two tasks. */
+static const struct node_record set[RECORDS] = {{7, 2, 3}, {8, 1, 6}, {9, 3, 20}};
 
 static uint8_t table[RECORDS * NODE_RECORD_BYTES];
 static uint32_t verdict[NODE_VERDICT_WORDS];
@@ -17,8 +17,11 @@ static uint32_t state[NODE_STATE_WORDS];
 static uint32_t tally[NODE_TALLY_WORDS];
 
 static uint64_t admit(void) { return node_admit(table, sizeof table, verdict, NODE_VERDICT_WORDS); }
-static uint64_t start(void) { return node_start(table, sizeof table, state, NODE_STATE_WORDS); }
 static uint64_t step(void) { return node_step(state, NODE_STATE_WORDS, tally, NODE_TALLY_WORDS); }
+static uint64_t start(uint32_t waking)
+{
+    return node_start(table, sizeof table, waking, state, NODE_STATE_WORDS);
+}
 static uint64_t release(uint32_t task, uint32_t demand)
 {
     return node_release(state, NODE_STATE_WORDS, task, demand);
@@ -57,6 +60,12 @@ static void show_step(void)
     printf("step at %" PRIu32 ": %s, task %" PRIu32 "\n", clock, kind, node_task(answer));
 }
 
+static void show_steps(int count)
+{
+    while (count-- > 0)
+        show_step();
+}
+
 static void show_entry(uint32_t task)
 {
     struct node_entry e = node_entry_in(state, task);
@@ -79,7 +88,8 @@ static void show_tally(void)
 {
     struct node_tally counts = node_tally_in(tally);
 
-    printf("tally %" PRIu32 " %" PRIu32 " %" PRIu32 "\n", counts.run, counts.slot, counts.tail);
+    printf("tally %" PRIu32 " %" PRIu32 " %" PRIu32 " %" PRIu32 "\n", counts.run, counts.slot,
+           counts.tail, counts.waking);
 }
 
 static void show_table(void)
@@ -92,27 +102,29 @@ static void show_table(void)
     for (uint32_t task = 0; task <= RECORDS; task++)
         show_row(task);
     show_row(NODE_PLACES + 1);
-    show_answer("length", NODE_REFUSED_LENGTH, node_start(table, 15, state, NODE_STATE_WORDS));
+    show_answer("length", NODE_REFUSED_LENGTH, node_start(table, 15, 0, state, NODE_STATE_WORDS));
     show_answer("broken", NODE_REFUSED_BROKEN, admit_with(2, 0, 20));
-    show_answer("falling", NODE_REFUSED_FALLING, admit_with(2, 1, 3));
-    show_answer("sleep", NODE_REFUSED_SLEEP, admit_with(0, 2, 2));
-    show_answer("no window", NODE_REFUSED_NO_WINDOW, admit_with(2, 5, 20));
+    show_answer("falling", NODE_REFUSED_FALLING, admit_with(2, 1, 5));
+    show_answer("sleep", NODE_REFUSED_SLEEP, admit_with(0, 3, 3));
+    show_answer("no window", NODE_REFUSED_NO_WINDOW, admit_with(2, 4, 20));
+    show_answer("long waking", NODE_REFUSED_LONG_WAKING, start(set[0].work + 1));
 }
 
 /* Two jobs, and all that a release can be refused for. */
 static void show_releases(void)
 {
     show_answer("unfit", NODE_REFUSED_UNFIT, release(1, 1));
-    show_answer("started", NODE_ACCEPTED, start());
-    show_step();
-    show_step();
+    show_answer("started", NODE_ACCEPTED, start(1));
+    show_steps(3);
     show_answer("task 1 released", NODE_ACCEPTED, release(1, 1));
     show_step();
     show_answer("task 2 released", NODE_ACCEPTED, release(2, 2));
-    show_step();
+    show_steps(2);
     struct node_record sleep = node_sleep_in(state);
-    printf("clock %" PRIu32 ", tasks %" PRIu32 ", sleep %" PRIu32 " %" PRIu32 " %" PRIu32 "\n",
-           node_clock_in(state), node_tasks_in(state), sleep.label, sleep.work, sleep.period);
+    printf("clock %" PRIu32 ", tasks %" PRIu32 ", waking %" PRIu32 ", sleep %" PRIu32 " %" PRIu32
+           " %" PRIu32 "\n",
+           node_clock_in(state), node_tasks_in(state), node_waking_in(state), sleep.label,
+           sleep.work, sleep.period);
     for (uint32_t task = 0; task <= RECORDS; task++)
         show_entry(task);
     show_entry(NODE_PLACES + 1);
@@ -124,20 +136,24 @@ static void show_releases(void)
     show_answer("off boundary", NODE_REFUSED_OFF_BOUNDARY, release(1, 1));
 }
 
-/* The tally is read, lost and made anew; then the clock is set to its end. */
+/* The tally is read, lost and made anew; then the waking length is damaged, and the clock is set to
+ * its end. */
 static void show_tallies(void)
 {
-    show_step();
-    show_step();
+    show_steps(3);
     show_tally();
-    uint64_t energy = node_energy(tally, NODE_TALLY_WORDS, 1000000, 1);
+    uint64_t energy = node_energy(tally, NODE_TALLY_WORDS, 1000000, 1, 1000);
     printf("energy %llu\n", (unsigned long long)node_nanojoules(energy));
-    show_answer("power", NODE_REFUSED_POWER, node_energy(tally, NODE_TALLY_WORDS, 1000001, 1));
+    energy = node_energy(tally, NODE_TALLY_WORDS, 1000000, 1, 1000001);
+    show_answer("power", NODE_REFUSED_POWER, energy);
     memset(tally, 0, sizeof tally);
     show_step();
     tally[NODE_TAIL] = node_clock_in(state);
     show_step();
     show_tally();
+    state[NODE_WAKING_AT] = set[0].work + 1;
+    show_answer("waking above S", NODE_REFUSED_UNFIT, step());
+    state[NODE_WAKING_AT] = 1;
     state[NODE_CLOCK_AT] = NODE_CLOCK_END;
     tally[NODE_TAIL] = NODE_CLOCK_END - 1;
     show_answer("clock end", NODE_REFUSED_CLOCK_END, step());

@@ -8,8 +8,8 @@ use node::{Answer, Record, Tick};
 
 const RECORDS: usize = 3;
 
-/// Sleep 1 in 2, and two tasks.
-const SET: [Record; RECORDS] = [record(7, 1, 2), record(8, 1, 4), record(9, 4, 20)];
+/// Sleep 2 in 3, and two tasks.
+const SET: [Record; RECORDS] = [record(7, 2, 3), record(8, 1, 6), record(9, 3, 20)];
 
 const fn record(label: u32, work: u32, period: u32) -> Record {
     #[rustfmt::skip]
@@ -32,6 +32,10 @@ fn show_answer(what: &str, number: u32, answer: Answer) {
 impl Buffers {
     fn admit(&mut self) -> Answer {
         node::admit(&self.table, &mut self.verdict)
+    }
+
+    fn start(&mut self, waking: u32) -> Answer {
+        node::start(&self.table, waking, &mut self.state)
     }
 
     fn step(&mut self) -> Answer {
@@ -62,6 +66,12 @@ impl Buffers {
         println!("step at {clock}: {kind}, task {task}");
     }
 
+    fn show_steps(&mut self, count: u32) {
+        for _ in 0..count {
+            self.show_step();
+        }
+    }
+
     fn show_entry(&self, task: u32) {
         let entry = node::entry(&self.state, task);
         #[rustfmt::skip]
@@ -81,8 +91,8 @@ impl Buffers {
     }
 
     fn show_tally(&self) {
-        let [run, slot, tail] = self.tally;
-        println!("tally {run} {slot} {tail}");
+        let [run, slot, tail, waking] = self.tally;
+        println!("tally {run} {slot} {tail} {waking}");
     }
 
     fn show_table(&mut self) {
@@ -98,30 +108,32 @@ impl Buffers {
             self.show_row(task as u32);
         }
         self.show_row(node::PLACES as u32 + 1);
-        let short = node::start(&self.table[..15], &mut self.state);
+        let short = node::start(&self.table[..15], 0, &mut self.state);
         show_answer("length", node::REFUSED_LENGTH, short);
         show_answer("broken", node::REFUSED_BROKEN, self.admit_with(2, 0, 20));
-        show_answer("falling", node::REFUSED_FALLING, self.admit_with(2, 1, 3));
-        show_answer("sleep", node::REFUSED_SLEEP, self.admit_with(0, 2, 2));
-        let no_window = self.admit_with(2, 5, 20);
+        show_answer("falling", node::REFUSED_FALLING, self.admit_with(2, 1, 5));
+        show_answer("sleep", node::REFUSED_SLEEP, self.admit_with(0, 3, 3));
+        let no_window = self.admit_with(2, 4, 20);
         show_answer("no window", node::REFUSED_NO_WINDOW, no_window);
+        let long_waking = self.start(SET[0].work + 1);
+        show_answer("long waking", node::REFUSED_LONG_WAKING, long_waking);
     }
 
     /// Two jobs, and all that a release can be refused for.
     fn show_releases(&mut self) {
         show_answer("unfit", node::REFUSED_UNFIT, self.release(1, 1));
-        let started = node::start(&self.table, &mut self.state);
-        show_answer("started", node::ACCEPTED, started);
-        self.show_step();
-        self.show_step();
+        show_answer("started", node::ACCEPTED, self.start(1));
+        self.show_steps(3);
         show_answer("task 1 released", node::ACCEPTED, self.release(1, 1));
         self.show_step();
         show_answer("task 2 released", node::ACCEPTED, self.release(2, 2));
-        self.show_step();
+        self.show_steps(2);
         let (clock, tasks) = (node::clock(&self.state), node::tasks(&self.state));
         #[rustfmt::skip]
         let Record { label, work, period } = node::sleep(&self.state);
-        println!("clock {clock}, tasks {tasks}, sleep {label} {work} {period}");
+        let waking = node::waking(&self.state);
+        print!("clock {clock}, tasks {tasks}, waking {waking}, ");
+        println!("sleep {label} {work} {period}");
         for task in 0..=RECORDS {
             self.show_entry(task as u32);
         }
@@ -135,22 +147,25 @@ impl Buffers {
         show_answer("off boundary", node::REFUSED_OFF_BOUNDARY, off_boundary);
     }
 
-    /// The tally is read, lost and made anew; then the clock is set to its end.
+    /// The tally is read, lost and made anew; then the waking length is damaged, and the clock is
+    /// set to its end.
     fn show_tallies(&mut self) {
-        self.show_step();
-        self.show_step();
+        self.show_steps(3);
         self.show_tally();
-        let energy = node::energy(&self.tally, 1_000_000, 1);
+        let energy = node::energy(&self.tally, 1_000_000, 1, 1_000);
         println!("energy {}", energy.nanojoules());
-        let power = node::energy(&self.tally, 1_000_001, 1);
+        let power = node::energy(&self.tally, 1_000_000, 1, 1_000_001);
         show_answer("power", node::REFUSED_POWER, power);
         self.tally = [0; node::TALLY_WORDS];
         self.show_step();
-        self.tally = [0, 0, node::clock(&self.state)];
+        self.tally = [0, 0, node::clock(&self.state), 0];
         self.show_step();
         self.show_tally();
+        self.state[node::WAKING_AT] = SET[0].work + 1;
+        show_answer("waking above S", node::REFUSED_UNFIT, self.step());
+        self.state[node::WAKING_AT] = 1;
         self.state[node::CLOCK_AT] = node::CLOCK_END;
-        self.tally = [0, 0, node::CLOCK_END];
+        self.tally = [0, 0, node::CLOCK_END, 0];
         show_answer("clock end", node::REFUSED_CLOCK_END, self.step());
     }
 }

@@ -10,8 +10,13 @@ use std::process::exit;
 const TASKS: usize = 4;
 const TICKS: u32 = 40;
 const STOP_AFTER: u32 = 25;
+
+/// The oscillator takes two ticks to start and much more power than sleep does: the last two ticks
+/// of each slot are counted and booked apart. Powers are in microwatts.
+const WAKING: u32 = 2;
 const RUN_POWER: u32 = 23_000;
 const SLEEP_POWER: u32 = 16;
+const WAKING_POWER: u32 = 9_000;
 
 const fn record(label: u32, work: u32, period: u32) -> Record {
     Record {
@@ -85,7 +90,7 @@ fn start() -> Memory {
     }
     println!("admitted {tasks}");
 
-    check(node::start(&table, &mut memory.state));
+    check(node::start(&table, WAKING, &mut memory.state));
     memory
 }
 
@@ -144,10 +149,14 @@ fn main() {
         TICKS - 1
     );
     println!("{picture}");
-    let [run, slot, tail] = memory.tally;
-    println!("run {run}, slot {slot}, tail {tail}");
-    let energy = check(node::energy(&memory.tally, RUN_POWER, SLEEP_POWER)).nanojoules();
-    println!("{energy} nanojoules at {RUN_POWER} and {SLEEP_POWER} microwatts");
+    let [run, slot, tail, waking] = memory.tally;
+    let length = node::waking(&memory.state);
+    print!("run {run}, slot {slot}, tail {tail}, ");
+    println!("waking {waking}: the last {length} ticks of each slot");
+    let energy = node::energy(&memory.tally, RUN_POWER, SLEEP_POWER, WAKING_POWER);
+    let nanojoules = check(energy).nanojoules();
+    print!("{nanojoules} nanojoules at {RUN_POWER}, {SLEEP_POWER} and {WAKING_POWER} microwatts ");
+    println!("for run, sleep and waking");
 
     let before = memory.state;
     let refusal = node::release(&mut memory.state, 2, HOUSE[2].work).number();

@@ -2,7 +2,7 @@
 //! the model gives, for replay.c to make on another processor. As many of every answer are kept.
 //!
 //! The file is 32-bit words, low byte first: the number of calls, then by call its number, the
-//! lengths of its table in bytes and of its two buffers in words, and its two numbers; the table,
+//! lengths of its table in bytes and of its two buffers in words, and its three numbers; the table,
 //! filled up with zeros, and the buffers; the answer, low half first; how many words the call
 //! changes, and of each its place, counted through both buffers, and what it becomes.
 
@@ -20,15 +20,17 @@ const OF_EACH: usize = 700;
 const MOST_BYTES: usize = 640;
 const MOST_WORDS: usize = 700;
 
-/// Accepted is 0, a refusal its number; an accepted step is counted by its kind.
-const SLOT: usize = 14;
-const TAIL: usize = 15;
+/// Accepted is 0, a refusal its number; an accepted step is counted by its kind, and a slot tick
+/// that counts as waking apart.
+const SLOT: usize = 15;
+const TAIL: usize = 16;
+const WAKING: usize = 17;
 
 struct Writer {
     random: Random,
     calls: u32,
     /// By call and answer.
-    kept: [[usize; 16]; 5],
+    kept: [[usize; 18]; 5],
     words: Vec<u32>,
 }
 
@@ -41,17 +43,18 @@ impl Writer {
         &mut self,
         call: Call,
         given: Lent,
-        numbers: [u32; 2],
+        numbers: [u32; 3],
         answer: u64,
         after: [&[u32]; 2],
     ) {
+        let Lent(table, [first, second]) = given;
         let number = (answer & 0xff) as usize;
         let group = match (call, number, answer >> 8 & 0xff) {
+            (Call::Step, 0, 1) if after[1][3] != second[3] => WAKING,
             (Call::Step, 0, 1) => SLOT,
             (Call::Step, 0, 2) => TAIL,
             _ => number,
         };
-        let Lent(table, [first, second]) = given;
         let large = table.len() > MOST_BYTES || first.len() + second.len() > MOST_WORDS;
         let kept = &mut self.kept[call as usize][group];
         // Some of them, so that they come from many rounds.
@@ -83,7 +86,7 @@ impl Writer {
     fn missing(&self) -> Option<String> {
         for (call, about) in ABOUT.iter().enumerate() {
             let kinds: &[usize] = if about.name == "step" {
-                &[SLOT, TAIL]
+                &[SLOT, TAIL, WAKING]
             } else {
                 &[]
             };
@@ -102,40 +105,36 @@ impl Calls for Writer {
         let before = verdict.to_vec();
         let answer = model::admit_words(table, verdict);
         let given = Lent(table, [&before, &[]]);
-        self.keep(Call::Admit, given, [0, 0], answer, [verdict, &[]]);
+        self.keep(Call::Admit, given, [0; 3], answer, [verdict, &[]]);
     }
 
-    fn start(&mut self, table: &[u8], state: &mut [u32]) {
+    fn start(&mut self, table: &[u8], waking: u32, state: &mut [u32]) {
         let before = state.to_vec();
-        let answer = model::start_words(table, state);
+        let answer = model::start_words(table, waking, state);
         let given = Lent(table, [&before, &[]]);
-        self.keep(Call::Start, given, [0, 0], answer, [state, &[]]);
+        self.keep(Call::Start, given, [waking, 0, 0], answer, [state, &[]]);
     }
 
     fn release(&mut self, state: &mut [u32], task: u32, demand: u32) {
         let before = state.to_vec();
         let answer = model::release_words(state, task, demand);
         let given = Lent(&[], [&before, &[]]);
-        self.keep(Call::Release, given, [task, demand], answer, [state, &[]]);
+        let numbers = [task, demand, 0];
+        self.keep(Call::Release, given, numbers, answer, [state, &[]]);
     }
 
     fn step(&mut self, state: &mut [u32], tally: &mut [u32]) {
         let before = [state.to_vec(), tally.to_vec()];
         let answer = model::step_words(state, tally);
         let given = Lent(&[], [&before[0], &before[1]]);
-        self.keep(Call::Step, given, [0, 0], answer, [state, tally]);
+        self.keep(Call::Step, given, [0; 3], answer, [state, tally]);
     }
 
-    fn energy(&mut self, tally: &[u32], run_power: u32, sleep_power: u32) {
-        let answer = model::energy_words(tally, run_power, sleep_power);
+    fn energy(&mut self, tally: &[u32], run_power: u32, sleep_power: u32, waking_power: u32) {
+        let answer = model::energy_words(tally, run_power, sleep_power, waking_power);
         let given = Lent(&[], [tally, &[]]);
-        self.keep(
-            Call::Energy,
-            given,
-            [run_power, sleep_power],
-            answer,
-            [tally, &[]],
-        );
+        let powers = [run_power, sleep_power, waking_power];
+        self.keep(Call::Energy, given, powers, answer, [tally, &[]]);
     }
 }
 
@@ -153,7 +152,7 @@ fn main() {
     let mut writer = Writer {
         random: Random(!seed),
         calls: 0,
-        kept: [[0; 16]; 5],
+        kept: [[0; 18]; 5],
         words: vec![0],
     };
     let mut rounds = 0;

@@ -10,7 +10,8 @@
 #include <string.h>
 
 /* The ticks are LATE ones, since a large clock takes longest where division is software. */
-enum { LATE = 999999000, TICKS = 400, REPEATS = 100, SLEEP = 8, HARMONIZING = 20, WORK = 2 };
+enum { LATE = 999999000, TICKS = 400, REPEATS = 100 };
+enum { SLEEP = 8, WAKING = 2, HARMONIZING = 20, WORK = 2 };
 
 /* Label, work, period and a 0. These processors have a word's low byte first, as a table has. */
 static uint32_t records[1 + NODE_PLACES][4];
@@ -104,7 +105,8 @@ static void admit(void)
 
 static void start(void)
 {
-    answer = node_start((const uint8_t *)records, table_len, node.state, NODE_STATE_WORDS);
+    answer = node_start((const uint8_t *)records, table_len, WAKING, node.state,
+                        NODE_STATE_WORDS);
 }
 
 static void release(void)
@@ -119,12 +121,13 @@ static void step(void)
 
 static void energy(void)
 {
-    answer = node_energy(node.tally, NODE_TALLY_WORDS, 23000, 16);
+    answer = node_energy(node.tally, NODE_TALLY_WORDS, 23000, 16, 9000);
 }
 
 /* ---- What they cost ---- */
 
-/* A step's three kinds are in the order of NODE_RUN, NODE_SLOT and NODE_TAIL. */
+/* A step's three kinds are in the order of NODE_RUN, NODE_SLOT and NODE_TAIL; waking ticks are
+ * among the slot's. */
 enum { ADMIT, START, RELEASE, RUN, SLOT, TAIL, ENERGY, KINDS };
 static uint32_t most[KINDS], deepest[KINDS], bare;
 

@@ -20,7 +20,7 @@ struct rooms {
 static struct rooms lent, expected;
 
 struct call {
-    uint32_t kind, table_len, first_len, second_len, numbers[2];
+    uint32_t kind, table_len, first_len, second_len, numbers[3];
 };
 static const char *const names[] = {"admit", "start", "release", "step", "energy"};
 
@@ -44,26 +44,28 @@ static uint32_t read_word(void)
 static uint64_t make(const struct call *call, const uint8_t *table, uint32_t *first,
                      uint32_t *second)
 {
+    const uint32_t *numbers = call->numbers;
+
     switch (call->kind) {
     case 0:
         return node_admit(table, call->table_len, first, call->first_len);
     case 1:
-        return node_start(table, call->table_len, first, call->first_len);
+        return node_start(table, call->table_len, numbers[0], first, call->first_len);
     case 2:
-        return node_release(first, call->first_len, call->numbers[0], call->numbers[1]);
+        return node_release(first, call->first_len, numbers[0], numbers[1]);
     case 3:
         return node_step(first, call->first_len, second, call->second_len);
     default:
-        return node_energy(first, call->first_len, call->numbers[0], call->numbers[1]);
+        return node_energy(first, call->first_len, numbers[0], numbers[1], numbers[2]);
     }
 }
 
 static void differs(uint32_t turn, const struct call *call)
 {
     printf("DIFFERENCE in call %" PRIu32 ", node_%s of %" PRIu32 " bytes, %" PRIu32 " and %" PRIu32
-           " words, %" PRIu32 ", %" PRIu32 "\n",
+           " words, %" PRIu32 ", %" PRIu32 ", %" PRIu32 "\n",
            turn, names[call->kind], call->table_len, call->first_len, call->second_len,
-           call->numbers[0], call->numbers[1]);
+           call->numbers[0], call->numbers[1], call->numbers[2]);
 }
 
 /* The two halves of an answer, since newlib does not print 64 bits by PRIx64. */

@@ -18,8 +18,13 @@
  *
  * THE TALLY is zeros first, then the same is lent to each step. A step gets 6 where the counts do
  * not sum to the clock. So after a lost tally every step gets 6, while releases are still accepted.
- * It is made anew of any three counts that sum to the clock, say the clock as tail: steps go on,
+ * It is made anew of any four counts that sum to the clock, say the clock as tail: steps go on,
  * and how the ticks before were split is unknown.
+ *
+ * WAKING costs more than sleeping: before a sleep slot ends the oscillator starts up. A start is
+ * given the ticks that this takes, the waking length V. The last V ticks of each slot count as
+ * waking and not as slot, and have a power of their own in the energy. They are slot ticks in all
+ * else: a step answers NODE_SLOT, and nothing runs.
  *
  * THE CLOCK'S END. A clock at 1,000,000,000, which is 11.57 days of milliseconds, takes no release
  * and no step: 7. To go on, add the tally's counts to sums kept elsewhere, and start anew with a
@@ -46,13 +51,14 @@ enum {
     NODE_PLACES = 16,            /* the most tasks */
     NODE_RECORD_BYTES = 16,      /* of a table: label, work, period, a reserved 0 */
     NODE_TABLE_BYTES = 272,      /* the longest table: the sleep record and 16 tasks */
-    NODE_STATE_WORDS = 150,      /* a state: NODE_HEAD_WORDS, and NODE_PLACE_WORDS for each place */
-    NODE_HEAD_WORDS = 6,
+    NODE_STATE_WORDS = 151,      /* a state: NODE_HEAD_WORDS, and NODE_PLACE_WORDS for each place */
+    NODE_HEAD_WORDS = 7,
     NODE_PLACE_WORDS = 9,
-    NODE_TALLY_WORDS = 3,        /* a tally: the ticks of kind run, slot and tail */
+    NODE_TALLY_WORDS = 4,        /* a tally: the run, slot, tail and waking ticks */
     NODE_VERDICT_WORDS = 48,     /* a verdict: 16 windows, 16 figures, 16 rounds */
     NODE_N_AT = 4,               /* the word of a state that holds n, the number of tasks, */
-    NODE_CLOCK_AT = 5,           /* and the one that holds its clock */
+    NODE_CLOCK_AT = 5,           /* the one that holds its clock, */
+    NODE_WAKING_AT = 6,          /* and the one that holds its waking length V */
     NODE_CLOCK_END = 1000000000  /* where a clock ends */
 };
 
@@ -74,11 +80,15 @@ enum {
     NODE_REFUSED_OFF_BOUNDARY = 10, /* task 1 released off a multiple of H */
     NODE_REFUSED_WORKING = 11,      /* that task is still working */
     NODE_REFUSED_EARLY = 12,        /* its last release is fewer than its period ago */
-    NODE_REFUSED_POWER = 13         /* a power figure is above 1,000,000 microwatts */
+    NODE_REFUSED_POWER = 13,        /* a power figure is above 1,000,000 microwatts */
+    NODE_REFUSED_LONG_WAKING = 14   /* the waking length V is above the sleep time S */
 };
 
 /* What a tick was. NODE_REFUSED is no tick: the step was refused. */
 enum { NODE_RUN = 0, NODE_SLOT = 1, NODE_TAIL = 2, NODE_REFUSED = 255 };
+
+/* A place of the tally alone, and no kind of tick: what is counted there was answered NODE_SLOT. */
+enum { NODE_WAKING = 3 };
 
 /* Table, by record: label, work, period and a reserved 0, each a 32-bit number, low byte first
  * (little-endian). Record 0 is the sleep record, the others are the tasks, highest priority first.
@@ -90,12 +100,13 @@ enum { NODE_RUN = 0, NODE_SLOT = 1, NODE_TAIL = 2, NODE_REFUSED = 255 };
  *   0 to 3   the sleep record: label, work S, period H, reserved
  *   4        n, the number of tasks (NODE_N_AT)
  *   5        the clock (NODE_CLOCK_AT)
- *   6 + 9 i  the task at place i, from 0 to 15: label, work, period, reserved;
+ *   6        the waking length V (NODE_WAKING_AT), at most S
+ *   7 + 9 i  the task at place i, from 0 to 15: label, work, period, reserved;
  *            1 at work, 0 resting; its release tick and its work left, 0 and 0 where it rests;
  *            1 released before, 0 never; its last release tick, 0 where never.
  *            Other kinds than 0 and 1, and anything but 0 where 0 is said, encode no state.
  *            After the n tasks all nine words of a place are 0.
- * Tally: run, slot and tail ticks, at NODE_RUN, NODE_SLOT and NODE_TAIL.
+ * Tally: run, slot, tail and waking ticks, at NODE_RUN, NODE_SLOT, NODE_TAIL and NODE_WAKING.
  * Verdict: by task from place 0 on, the windows, then the figures, then the rounds.
  */
 
@@ -110,9 +121,10 @@ enum { NODE_RUN = 0, NODE_SLOT = 1, NODE_TAIL = 2, NODE_REFUSED = 255 };
 uint64_t node_admit(const uint8_t *table, uint64_t table_len,
                     uint32_t *verdict, uint64_t verdict_len);
 
-/* A fresh state of a table. Refusals 1 to 4, place the record, and 6: the buffer then holds what it
- * held, perhaps an older state, so look at the answer. A set that gets 5 may be started. */
-uint64_t node_start(const uint8_t *table, uint64_t table_len,
+/* A fresh state of a table and a waking length, 0 to S. Refusals 1 to 4, place the record, 6 and
+ * 14: the buffer then holds what it held, perhaps an older state, so look at the answer. A set that
+ * gets 5 may be started. */
+uint64_t node_start(const uint8_t *table, uint64_t table_len, uint32_t waking,
                     uint32_t *state, uint64_t state_len);
 
 /* A release of a task, from 1, at the state's clock: before the step of that tick, in any order.
@@ -121,12 +133,13 @@ uint64_t node_start(const uint8_t *table, uint64_t table_len,
 uint64_t node_release(uint32_t *state, uint64_t state_len, uint32_t task, uint32_t demand);
 
 /* One tick: kind is NODE_RUN, NODE_SLOT or NODE_TAIL, task the one that ran, from 1. The state goes
- * one tick on and the tally's count up by one. Refusals 6 and 7. */
+ * one tick on and one of the tally's counts up by one. Refusals 6 and 7. */
 uint64_t node_step(uint32_t *state, uint64_t state_len, uint32_t *tally, uint64_t tally_len);
 
-/* The energy of a tally in nanojoules, powers in microwatts. Refusals 6 and 13, with energy 0. */
+/* The energy of a tally in nanojoules, powers in microwatts; slot and tail are at sleep power.
+ * Refusals 6 and 13, with energy 0. */
 uint64_t node_energy(const uint32_t *tally, uint64_t tally_len,
-                     uint32_t run_power, uint32_t sleep_power);
+                     uint32_t run_power, uint32_t sleep_power, uint32_t waking_power);
 
 /* The parts of an answer: its number, of any call; the place, of admission and start; the rounds, of
  * admission. */
@@ -168,7 +181,7 @@ struct node_entry {
 };
 
 struct node_tally {
-    uint32_t run, slot, tail;
+    uint32_t run, slot, tail, waking;
 };
 
 struct node_row {
@@ -177,6 +190,7 @@ struct node_row {
 
 static inline uint32_t node_clock_in(const uint32_t *state) { return state[NODE_CLOCK_AT]; }
 static inline uint32_t node_tasks_in(const uint32_t *state) { return state[NODE_N_AT]; }
+static inline uint32_t node_waking_in(const uint32_t *state) { return state[NODE_WAKING_AT]; }
 
 /* The sleep record: work is S, period is H. */
 static inline struct node_record node_sleep_in(const uint32_t *state)
@@ -204,7 +218,8 @@ static inline struct node_entry node_entry_in(const uint32_t *state, uint32_t ta
 
 static inline struct node_tally node_tally_in(const uint32_t *tally)
 {
-    struct node_tally counts = {tally[NODE_RUN], tally[NODE_SLOT], tally[NODE_TAIL]};
+    struct node_tally counts = {tally[NODE_RUN], tally[NODE_SLOT], tally[NODE_TAIL],
+                                tally[NODE_WAKING]};
     return counts;
 }
 

@@ -1,6 +1,6 @@
 //! node.rs: the calls of node.h for firmware in Rust, with or without the standard library. Take it
 //! in as a module: `#[path = ".../include/node.rs"] mod node;`. node.h has the rules: what a call
-//! takes and leaves, the refusals, the layouts, the tally, the clock's end, stops.
+//! takes and leaves, the refusals, the layouts, the tally, waking, the clock's end, stops.
 
 #![allow(dead_code)] // a program takes what it needs
 
@@ -9,19 +9,21 @@ pub const PLACES: usize = 16;
 pub const RECORD_BYTES: usize = 16;
 /// The longest table.
 pub const TABLE_BYTES: usize = 272;
-pub const STATE_WORDS: usize = 150;
-pub const HEAD_WORDS: usize = 6;
+pub const STATE_WORDS: usize = 151;
+pub const HEAD_WORDS: usize = 7;
 pub const PLACE_WORDS: usize = 9;
-pub const TALLY_WORDS: usize = 3;
+pub const TALLY_WORDS: usize = 4;
 pub const VERDICT_WORDS: usize = 48;
-/// The word of a state that holds n, the number of tasks, and the one that holds its clock.
+/// The word of a state that holds n, the number of tasks, the one that holds its clock, and the one
+/// that holds its waking length V.
 pub const N_AT: usize = 4;
 pub const CLOCK_AT: usize = 5;
+pub const WAKING_AT: usize = 6;
 /// Where a clock ends.
 pub const CLOCK_END: u32 = 1_000_000_000;
 
 pub type State = [u32; STATE_WORDS];
-/// Run, slot and tail ticks.
+/// Run, slot, tail and waking ticks. What is counted as waking was answered `Tick::Slot`.
 pub type Tally = [u32; TALLY_WORDS];
 pub type Verdict = [u32; VERDICT_WORDS];
 
@@ -40,15 +42,28 @@ pub const REFUSED_OFF_BOUNDARY: u32 = 10;
 pub const REFUSED_WORKING: u32 = 11;
 pub const REFUSED_EARLY: u32 = 12;
 pub const REFUSED_POWER: u32 = 13;
+pub const REFUSED_LONG_WAKING: u32 = 14;
 
 // Nothing checks a declaration against the archive. A pointer goes with the length of its own
 // buffer, in bytes for a table and in words for the others; lengths are 64 bits wide everywhere.
 extern "C" {
     pub fn node_admit(table: *const u8, bytes: u64, verdict: *mut u32, words: u64) -> u64;
-    pub fn node_start(table: *const u8, bytes: u64, state: *mut u32, words: u64) -> u64;
+    pub fn node_start(
+        table: *const u8,
+        bytes: u64,
+        waking: u32,
+        state: *mut u32,
+        words: u64,
+    ) -> u64;
     pub fn node_release(state: *mut u32, words: u64, task: u32, demand: u32) -> u64;
     pub fn node_step(state: *mut u32, words: u64, tally: *mut u32, tally_words: u64) -> u64;
-    pub fn node_energy(tally: *const u32, words: u64, run_power: u32, sleep_power: u32) -> u64;
+    pub fn node_energy(
+        tally: *const u32,
+        words: u64,
+        run_power: u32,
+        sleep_power: u32,
+        waking_power: u32,
+    ) -> u64;
 }
 
 // SAFETY, of each call: a pointer goes with the length of what it was taken from, and what is
@@ -59,9 +74,9 @@ pub fn admit(table: &[u8], verdict: &mut Verdict) -> Answer {
     Answer(unsafe { node_admit(table.as_ptr(), bytes, to, VERDICT_WORDS as u64) })
 }
 
-pub fn start(table: &[u8], state: &mut State) -> Answer {
+pub fn start(table: &[u8], waking: u32, state: &mut State) -> Answer {
     let (bytes, to) = (table.len() as u64, state.as_mut_ptr());
-    Answer(unsafe { node_start(table.as_ptr(), bytes, to, STATE_WORDS as u64) })
+    Answer(unsafe { node_start(table.as_ptr(), bytes, waking, to, STATE_WORDS as u64) })
 }
 
 pub fn release(state: &mut State, task: u32, demand: u32) -> Answer {
@@ -73,9 +88,9 @@ pub fn step(state: &mut State, tally: &mut Tally) -> Answer {
     Answer(unsafe { node_step(state, STATE_WORDS as u64, tally, TALLY_WORDS as u64) })
 }
 
-pub fn energy(tally: &Tally, run_power: u32, sleep_power: u32) -> Answer {
-    let words = TALLY_WORDS as u64;
-    Answer(unsafe { node_energy(tally.as_ptr(), words, run_power, sleep_power) })
+pub fn energy(tally: &Tally, run_power: u32, sleep_power: u32, waking_power: u32) -> Answer {
+    let (from, words) = (tally.as_ptr(), TALLY_WORDS as u64);
+    Answer(unsafe { node_energy(from, words, run_power, sleep_power, waking_power) })
 }
 
 #[derive(Clone, Copy, Debug, PartialEq)]
@@ -159,6 +174,11 @@ pub fn clock(state: &State) -> u32 {
 
 pub fn tasks(state: &State) -> u32 {
     state[N_AT]
+}
+
+/// The waking length V.
+pub fn waking(state: &State) -> u32 {
+    state[WAKING_AT]
 }
 
 /// The sleep record.

@@ -17,7 +17,7 @@ use Rattle.table.specs.Sound.{readOf}
 use Rattle.table.specs.Applies.{Lowest, Table-applies}
 use Rattle.table.specs.Set.{rulesOf}
 use Rattle.table.proofs.SoundLaws.{read-sound, sound-read, reading-gives}
-use Rattle.table.proofs.LowestLaws.{number}
+use Rattle.table.proofs.LowestLaws.{number, lowest-of-first}
 use Rattle.table.proofs.ReadingLaws.{reading-refused-exactly, sound-none-applies}
 use Rattle.admission.specs.declared.Answer.the-variants.{Admitted, Refused}
 use Rattle.admission.specs.Figure.{limit}
@@ -92,9 +92,7 @@ admission-refused-exactly bytes r = (to (readOf bytes) refl, λ L. from L (L .ap
         b ∙ rw (same, spent) (ap Refused (sym (F .is)))
 
     from : Lowest (Admission-applies bytes) r → Admission-applies bytes r → admitOf bytes .answer ≡ Refused r
-    from L (inl t) =
-        let T : Lowest (Table-applies bytes) r = record { applies = t; none-lower = λ q lower a. L .none-lower q lower (inl a) } in
-        rw (reading-refused-exactly bytes r .1 T)
+    from L (inl t) = rw (reading-refused-exactly bytes r .1 (lowest-of-first L t))
     from L (inr F) = failed F (admit-says bytes (F .tasks) (sound-read bytes (F .tasks) (F .sound)))
 
 -- An admission gives no refusals but those of `admissionGives`.
@@ -103,6 +101,6 @@ admission-gives bytes r a = go (admission-refused-exactly bytes r .0 a)
   where
     go : Lowest (Admission-applies bytes) r → admissionGives r ≡ true
     go L = ⊎-elim
-        (λ t. rw (reading-gives bytes r (reading-refused-exactly bytes r .1 (record { applies = t; none-lower = λ q lower a. L .none-lower q lower (inl a) }))))
+        (λ t. rw (reading-gives bytes r (reading-refused-exactly bytes r .1 (lowest-of-first L t))))
         (λ F. rw (F .is))
         (L .applies)

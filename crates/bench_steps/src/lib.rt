@@ -26,18 +26,19 @@ pub extern "C" fn steps_on(state: &mut [u32], tally: &mut [u32], count: u32) -> 
     answer
 }
 
-// The call starts and makes so many steps with the state by value, and gives the slot ticks, and
-// above them the tail ticks.
+// The call starts with no waking, makes so many steps with the state by value, and gives the slot
+// ticks, and above them the tail ticks.
 #[no_mangle]
 pub extern "C" fn steps_by_value(table: &[u8], count: u32) -> u64
-    ensures { λ r. ⌜ r ≡ counted (stepsOf (startOf (record { table = now (table .entry) }) .state) count) ⌝ }
+    ensures { λ r. ⌜ r ≡ counted (stepsOf (startOf (record { table = now (table .entry); waking = 0 }) .state) count) ⌝ }
 {
-    let started = start(table);
+    let started = start(table, 0);
     let mut state = started.state;
     let mut tally = Tally {
         run: 0,
         slot: 0,
         tail: 0,
+        waking: 0,
     };
     let mut i: u32 = 0;
     while i < count {

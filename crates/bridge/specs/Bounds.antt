@@ -11,9 +11,7 @@ use Rattle.theory.specs.Rounds.{Window}
 use Rattle.theory.proofs.System.{Reach, start}
 use Rattle.theory.proofs.Response.{response}
 use Rattle.table.specs.declared.Reading.the-variants as read
-use Rattle.table.specs.Sound.{readOf}
 use Rattle.table.specs.Set.{rulesOf}
-use Rattle.table.proofs.SetLaws.{read-set}
 use Rattle.admission.specs.Figure.{limit, figure}
 use Rattle.decisions.specs.declared.Job.{Job}
 use Rattle.decisions.specs.declared.Job.the-variants.{Resting, Working}
@@ -23,7 +21,8 @@ use Rattle.decisions.specs.declared.Tick.the-variants.{Run, Slot, Tail}
 use Rattle.scheduler.specs.declared.Ticked.{Ticked}
 use Rattle.scheduler.specs.declared.Ticked.the-variants as ticked
 use Rattle.scheduler.specs.States.{entryIn}
-use Rattle.scheduler.specs.Starts.{Given, freshState}
+use Rattle.scheduler.specs.Starts.{Given, readGiven, freshState}
+use Rattle.scheduler.proofs.GivenLaws.{given-set}
 use Rattle.scheduler.specs.Steps.{firstReady, stepOf}
 use Rattle.histories.specs.History.{Call, release, step, lend, Finish, Past, ended, finished, next, after, begun}
 use Rattle.bridge.specs.Views.{jobView, viewOf}
@@ -31,7 +30,7 @@ use Rattle.bridge.specs.Runs.{Bridged, records, tasks, bridged-next, bri
 use Rattle.bridge.specs.Ticks.{run-is}
 
 -- A TASK AT WORK ON A JOB RELEASED AT a is so at a clock below a + its figure.
-pub working-below : (g : Given) (n i w a l : ℕ) (calls : List Call) → readOf (g .table) ≡ read.Sound n → Window (rulesOf (g .table)) i (limit (rulesOf (g .table)) i) w
+pub working-below : (g : Given) (n i w a l : ℕ) (calls : List Call) → readGiven g ≡ read.Sound n → Window (rulesOf (g .table)) i (limit (rulesOf (g .table)) i) w
     → entryIn (after (begun (freshState g n)) calls .state) i .job ≡ Working a l
     → after (begun (freshState g n)) calls .state .clock < a + figure (rulesOf (g .table)) i w
 working-below g n i w a l calls e W j =
@@ -43,7 +42,7 @@ abbrev pub In-figure : (ℕ → ℕ) → Finish → Type 0
 In-figure figures f = f .at ≤ f .release + figures (f .place)
 
 -- EVERY FINISH IS WITHIN THE FIGURE on a table of which every task has a window.
-module _ (g : Given) (n : ℕ) (e : readOf (g .table) ≡ read.Sound n) (figures : ℕ → ℕ)
+module _ (g : Given) (n : ℕ) (e : readGiven g ≡ read.Sound n) (figures : ℕ → ℕ)
     (W : (i : ℕ) → i < n → (w : ℕ) × Window (rulesOf (g .table)) i (limit (rulesOf (g .table)) i) w × (figures i ≡ figure (rulesOf (g .table)) i w)) where
   -- One step more, whatever tally it lends, keeps every finish within its figure.
   finish-step : (p : Past) (t : Tally) → Bridged (records g) (tasks g) p → Reach (rulesOf (g .table)) (viewOf (p .state)) → Each (In-figure figures) (p .finishes)
@@ -73,7 +72,7 @@ module _ (g : Given) (n : ℕ) (e : readOf (g .table) ≡ read.Sound n) (figures
       go (ticked.Tick Tail) q = rw q fs
       go (ticked.Tick (Run k)) q =
           let R = run-is (records g) (tasks g) s t k (B .sized) (B .holds) q in
-          let li : firstReady s < n = omega (arith, R .a-task, B .holds .n-is, read-set (g .table) n e .tasks) in
+          let li : firstReady s < n = omega (arith, R .a-task, B .holds .n-is, given-set g n e .tasks) in
           let same : firstReady s + 1 - 1 ≡ firstReady s = omega arith in
           rw (q, R .numbered, same) (by-job (firstReady s) li (entryIn s (firstReady s) .job) refl)
 

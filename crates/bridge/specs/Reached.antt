@@ -20,9 +20,8 @@ use Rattle.theory.proofs.Figures.{reached-before, late}
 use Rattle.theory.proofs.Free.{Free, windowed, one-job}
 use Rattle.table.specs.declared.Reading.the-variants as read
 use Rattle.table.specs.Bytes.{recordAt, recordsIn}
-use Rattle.table.specs.Sound.{readOf}
 use Rattle.table.specs.Set.{rulesOf}
-use Rattle.table.proofs.SetLaws.{read-set, works-small}
+use Rattle.table.proofs.SetLaws.{works-small}
 use Rattle.table.proofs.SetLaws as set
 use Rattle.table.specs.Times.{waiting}
 use Rattle.admission.specs.Figure.{limit, figure}
@@ -30,7 +29,8 @@ use Rattle.decisions.specs.declared.Job.{Job}
 use Rattle.decisions.specs.declared.Job.the-variants.{Resting, Working}
 use Rattle.decisions.specs.Fits.{clockEnd}
 use Rattle.scheduler.specs.States.{entryIn}
-use Rattle.scheduler.specs.Starts.{freshState, Given}
+use Rattle.scheduler.specs.Starts.{Given, readGiven, freshState}
+use Rattle.scheduler.proofs.GivenLaws.{given-set}
 use Rattle.histories.specs.History.{Call, step, Taken, Past, next, after, begun, At-work}
 use Rattle.histories.specs.Jobs.{Standing, done, going, Finishes-at}
 use Rattle.histories.specs.Pattern.{releasesAt, worstPattern}
@@ -50,7 +50,7 @@ fewer R o m i v l (begin f) = begin f
 fewer R o m i v l (release {v = u} j d p r f) = release j d (fewer R o m i u l p) r (λ lj. f (omega arith))
 fewer R o m i v l (tick {v = u} p t f) = tick (fewer R o m i u l p) t (λ j lj. f j (omega arith))
 
-module _ (g : Given) (n : ℕ) (e : readOf (g .table) ≡ read.Sound n) where
+module _ (g : Given) (n : ℕ) (e : readGiven g ≡ read.Sound n) where
   abbrev R : Rules
   R = rulesOf (g .table)
 
@@ -65,12 +65,12 @@ module _ (g : Given) (n : ℕ) (e : readOf (g .table) ≡ read.Sound n) where
 
   -- No wait is longer than the period.
   pub wait-within : (i : ℕ) → i < n → R .wait i ≤ R .T i
-  wait-within i l = let S = read-set (g .table) n e in set.wait-within (recordAt (g .table)) (recordsIn (g .table) - 1) (S .set) i (omega (arith, S .tasks))
+  wait-within i l = let S = given-set g n e in set.wait-within (recordAt (g .table)) (recordsIn (g .table) - 1) (S .set) i (omega (arith, S .tasks))
 
   -- H and the periods are small.
   small : (i : ℕ) → (R .H ≤ 60000) × (R .T i ≤ 60000)
   small i =
-      let S = read-set (g .table) n e in
+      let S = given-set g n e in
       (S .set .lawful-at 0 (omega arith) .small, works-small (recordAt (g .table)) (recordsIn (g .table) - 1) (S .set) i .2)
 
   -- A task with a window is never in the way of its own release.
@@ -156,7 +156,7 @@ module _ (g : Given) (n : ℕ) (e : readOf (g .table) ≡ read.Sound n) where
 
       -- A window holds the work of the task and one slot, so it is 2 ticks at least.
       long : 2 ≤ w
-      long = omega (arith, W .fits, demand-first R i w ok (W .some), ok .work i, read-set (g .table) n e .set .lawful-at 0 (omega arith) .some)
+      long = omega (arith, W .fits, demand-first R i w ok (W .some), ok .work i, given-set g n e .set .lawful-at 0 (omega arith) .some)
 
       -- This is the last clock at which the job is at work.
       t : ℕ
@@ -222,7 +222,7 @@ module _ (g : Given) (n : ℕ) (e : readOf (g .table) ≡ read.Sound n) where
   pub all-accepted : (t : ℕ) (W : (j : ℕ) → j < n → (x : ℕ) × Window R j (limit R j) x) → t ≤ clockEnd
       → (patterned g n n t .refusals ≡ 0) × (patterned g n n t .state .clock ≡ t)
   all-accepted t Ws l =
-      let some : 1 ≤ n = omega (arith, read-set (g .table) n e .set .some, read-set (g .table) n e .tasks) in
+      let some : 1 ≤ n = omega (arith, given-set g n e .set .some, given-set g n e .tasks) in
       let last : suc (n - 1) ≡ n = omega arith in
       let I = pattern-runs g n e (n - 1) (omega arith) t l (λ s k ls lk. windowed-free k (Ws k (omega arith) .0) s (omega arith) (Ws k (omega arith) .1)) in
       (rw last at (I .accepted), rw last at (I .clock-is))

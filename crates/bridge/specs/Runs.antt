@@ -10,10 +10,10 @@ use Rattle.theory.proofs.System.{View, Sound, Tick, slotted, ran, tailed, Move,
 use Rattle.theory.proofs.TailLaws.{After, next as further}
 use Rattle.table.specs.declared.Reading.the-variants as read
 use Rattle.table.specs.Bytes.{recordAt, recordsIn}
-use Rattle.table.specs.Sound.{places, readOf}
+use Rattle.table.specs.Sound.{places}
 use Rattle.table.specs.declared.Record.{Record}
 use Rattle.table.specs.Set.{rulesFrom, rulesOf}
-use Rattle.table.proofs.SetLaws.{read-set, set-sound}
+use Rattle.table.proofs.SetLaws.{set-sound}
 use Rattle.decisions.specs.declared.Job.the-variants.{Resting, Working}
 use Rattle.decisions.specs.declared.Last.the-variants.{Never}
 use Rattle.decisions.specs.declared.Entry.{Entry}
@@ -24,7 +24,7 @@ use Rattle.decisions.specs.declared.Answer.the-variants.{Accepted, Refused}
 use Rattle.decisions.specs.Fits.{clockEnd}
 use Rattle.scheduler.specs.States.{entryIn, aged}
 use Rattle.scheduler.specs.Lawful.{Lawful-state}
-use Rattle.scheduler.specs.Starts.{freshState, Given}
+use Rattle.scheduler.specs.Starts.{Given, readGiven, freshState}
 use Rattle.scheduler.specs.Releases.{releaseAnswer, releasedState, releaseOf, releasedEntry}
 use Rattle.decisions.specs.Ticks.{workedOf}
 use Rattle.scheduler.specs.Steps.{firstReady, tickOf, stepOf, afterRun, afterTick}
@@ -33,6 +33,7 @@ use Rattle.scheduler.proofs.ReleaseLaws.{accepted-says, release-place}
 use Rattle.scheduler.proofs.PlaceLaws.{Sized, One-place, task-stays, keeps-lawful}
 use Rattle.scheduler.proofs.TickLaws.{Tick-is, slots, runs, tails, tick-is, run-place, after-lawful}
 use Rattle.scheduler.proofs.StepLaws.{Step-is, moves, stays, step-is}
+use Rattle.scheduler.proofs.GivenLaws.{given-set}
 use Rattle.scheduler.proofs.StartLaws.{fresh-rests, fresh-entry, fresh-lawful}
 use Rattle.bridge.specs.Views.{jobView, lastView, viewOf, Holds}
 use Rattle.bridge.specs.Moves.{beyond-rests, release-moves, runner, tick-slotted, tick-tailed, tick-ran}
@@ -154,9 +155,9 @@ abbrev pub tasks : Given → ℕ
 tasks g = recordsIn (g .table) - 1
 
 -- A fresh start keeps the rules and holds its set.
-pub bridged-begun : (g : Given) (n : ℕ) → readOf (g .table) ≡ read.Sound n → Bridged (records g) (tasks g) (begun (freshState g n))
+pub bridged-begun : (g : Given) (n : ℕ) → readGiven g ≡ read.Sound n → Bridged (records g) (tasks g) (begun (freshState g n))
 bridged-begun g n e =
-    let S = read-set (g .table) n e in
+    let S = given-set g n e in
     let L = fresh-lawful g n e in
     record {
       sized = L .0;
@@ -169,7 +170,7 @@ bridged-begun g n e =
     }
 
 -- A fresh start is a fresh view.
-pub begun-fresh : (g : Given) (n : ℕ) → readOf (g .table) ≡ read.Sound n → Fresh (viewOf (freshState g n))
+pub begun-fresh : (g : Given) (n : ℕ) → readGiven g ≡ read.Sound n → Fresh (viewOf (freshState g n))
 begun-fresh g n e = record {
   clock-zero = refl;
   all-rest = λ k. ap jobView (rests k .0);
@@ -207,13 +208,13 @@ pub go-on : (set : ℕ → Record) (n : ℕ) (v : View) (p : Past) (calls : List
 go-on set n v = view-after set n (After (rulesFrom set n) v) (λ u w a m. further a m)
 
 -- The theory knows every history from a fresh start: its state keeps the rules and holds the set.
-pub history-bridged : (g : Given) (n : ℕ) (calls : List Call) → readOf (g .table) ≡ read.Sound n → Bridged (records g) (tasks g) (after (begun (freshState g n)) calls)
+pub history-bridged : (g : Given) (n : ℕ) (calls : List Call) → readGiven g ≡ read.Sound n → Bridged (records g) (tasks g) (after (begun (freshState g n)) calls)
 history-bridged g n calls e = bridged-after (records g) (tasks g) (begun (freshState g n)) calls (bridged-begun g n e)
 
-pub history-reaches : (g : Given) (n : ℕ) (calls : List Call) → readOf (g .table) ≡ read.Sound n
+pub history-reaches : (g : Given) (n : ℕ) (calls : List Call) → readGiven g ≡ read.Sound n
     → Reach (rulesOf (g .table)) (viewOf (after (begun (freshState g n)) calls .state))
 history-reaches g n calls e = reach-after (records g) (tasks g) (begun (freshState g n)) calls (bridged-begun g n e) (start (begun-fresh g n e))
 
 -- The rules of a sound table are as the theory needs them.
-pub rules-sound : (g : Given) (n : ℕ) → readOf (g .table) ≡ read.Sound n → Sound (rulesOf (g .table))
-rules-sound g n e = set-sound (recordAt (g .table)) (recordsIn (g .table) - 1) (read-set (g .table) n e .set)
+pub rules-sound : (g : Given) (n : ℕ) → readGiven g ≡ read.Sound n → Sound (rulesOf (g .table))
+rules-sound g n e = set-sound (recordAt (g .table)) (recordsIn (g .table) - 1) (given-set g n e .set)

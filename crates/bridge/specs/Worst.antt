@@ -22,10 +22,9 @@ use Rattle.theory.proofs.Figures.{offset-good}
 use Rattle.theory.proofs.Free.{Free, free-due}
 use Rattle.table.specs.declared.Reading.the-variants as read
 use Rattle.table.specs.Bytes.{recordAt, recordsIn}
-use Rattle.table.specs.Sound.{readOf}
 use Rattle.table.specs.Set.{rulesOf}
 use Rattle.table.proofs.TimesLaws.{says-time}
-use Rattle.table.proofs.SetLaws.{read-set, first-multiple}
+use Rattle.table.proofs.SetLaws.{first-multiple}
 use Rattle.decisions.specs.declared.Last.{Last}
 use Rattle.decisions.specs.declared.Last.the-variants.{Never, At}
 use Rattle.scheduler.specs.declared.State.{State}
@@ -33,7 +32,8 @@ use Rattle.scheduler.specs.declared.Moved.{Moved}
 use Rattle.decisions.specs.declared.Answer.the-variants.{Accepted}
 use Rattle.decisions.specs.Fits.{clockEnd, noEntry}
 use Rattle.scheduler.specs.States.{entryIn}
-use Rattle.scheduler.specs.Starts.{freshState, Given}
+use Rattle.scheduler.specs.Starts.{Given, readGiven, freshState}
+use Rattle.scheduler.proofs.GivenLaws.{given-set}
 use Rattle.scheduler.specs.Releases.{releasedState, releaseOf}
 use Rattle.scheduler.specs.Steps.{tickOf, stepOf, afterTick}
 use Rattle.histories.specs.History.{release, step, Past, next, after, begun}
@@ -68,7 +68,7 @@ allowed-back Never period clock al a e = let z : _≡_ {A = ℕ} 0 1 = cc in abs
 allowed-back (At p) period clock al a e = let pa : p ≡ a = cc in rw pa at al
 
 -- All of this is about a sound table of n tasks, of which those up to place i follow the pattern.
-module _ (g : Given) (n : ℕ) (e : readOf (g .table) ≡ read.Sound n) (i : ℕ) (li : i < n) where
+module _ (g : Given) (n : ℕ) (e : readGiven g ≡ read.Sound n) (i : ℕ) (li : i < n) where
   -- These are the rules of the table.
   abbrev R : Rules
   R = rulesOf (g .table)
@@ -81,17 +81,17 @@ module _ (g : Given) (n : ℕ) (e : readOf (g .table) ≡ read.Sound n) (i : ℕ
 
   pub offsets : Offsets R o
   offsets = offset-good R (recordAt (g .table) 1 .period / recordAt (g .table) 0 .period) (omega (arith, ok .room))
-      (first-multiple (recordAt (g .table)) (recordsIn (g .table) - 1) (read-set (g .table) n e .set))
+      (first-multiple (recordAt (g .table)) (recordsIn (g .table) - 1) (given-set g n e .set))
 
   -- A task that is due may be released: the first task's times are multiples of H.
   due-ok : (j t : ℕ) → j ≤ i → Due R o j t → R .Ok j t
   unfolding Due offset
-  due-ok j t l d = (omega (arith, read-set (g .table) n e .tasks), says-time (R .H) j t (λ z. first j t d z))
+  due-ok j t l d = (omega (arith, given-set g n e .tasks), says-time (R .H) j t (λ z. first j t d z))
     where
       first : (j t : ℕ) → Due R o j t → j ≡ 0 → t % R .H ≡ 0
       first zero t (m, q) z =
           let k : ℕ = recordAt (g .table) 1 .period / recordAt (g .table) 0 .period in
-          let T : R .T 0 ≡ k * R .H = first-multiple (recordAt (g .table)) (recordsIn (g .table) - 1) (read-set (g .table) n e .set) in
+          let T : R .T 0 ≡ k * R .H = first-multiple (recordAt (g .table)) (recordsIn (g .table) - 1) (given-set g n e .set) in
           let q' : t ≡ R .H + m * (k * R .H) = rw T at q in
           let q'' : t ≡ suc (m * k) * R .H = omega arith in
           rw q'' (mul-mod-left (suc (m * k)) (R .H))
@@ -144,7 +144,7 @@ module _ (g : Given) (n : ℕ) (e : readOf (g .table) ≡ read.Sound n) (i : ℕ
       lj = omega (arith, le, li)
 
       lt : j < tasks g
-      lt = omega (arith, lj, read-set (g .table) n e .tasks)
+      lt = omega (arith, lj, given-set g n e .tasks)
 
       same : j + 1 - 1 ≡ j
       same = omega arith

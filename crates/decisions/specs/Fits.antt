@@ -61,18 +61,24 @@ spareFits e = zeroed (e .task) && restsNever (e .job) (e .last)
 abbrev pub placeFits : Head → ℕ → ℕ → Entry → Bool
 placeFits head i above e = cond (ltb i (head .n)) (taskFits head i above e) (spareFits e)
 
--- The head keeps its rules: n is from 1 to 16, the clock at most its end, and the table rules hold of the sleep record
--- beside the first task.
+-- A waking length V keeps its rule where it is at most S.
+abbrev pub wakingFits : ℕ → Record → Bool
+wakingFits waking sleep = leb waking (sleep .work)
+
+-- The head keeps its rules: n is from 1 to 16, the clock at most its end, the table rules hold of the sleep record
+-- beside the first task, and V is at most S.
 abbrev pub headFits : Head → Record → Bool
-headFits head first = leb 1 (head .n) && leb (head .n) places && leb (head .clock) clockEnd && recordFits (head .sleep) && sleepFits (head .sleep) first
+headFits head first =
+    leb 1 (head .n) && leb (head .n) places && leb (head .clock) clockEnd && recordFits (head .sleep) && sleepFits (head .sleep) first
+    && wakingFits (head .waking) (head .sleep)
 
 -- `noTicks` is a tally before the first tick.
 abbrev pub noTicks : Tally
-noTicks = record { run = 0; slot = 0; tail = 0 }
+noTicks = record { run = 0; slot = 0; tail = 0; waking = 0 }
 
 -- `total` counts all the ticks of a tally.
 abbrev pub total : Tally → ℕ
-total t = t .run + t .slot + t .tail
+total t = t .run + t .slot + t .tail + t .waking
 
 -- A tally keeps its rule where its counts sum to the clock.
 abbrev pub tallyFits : Tally → ℕ → Bool

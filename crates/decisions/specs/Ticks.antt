@@ -9,17 +9,21 @@ use Rattle.decisions.specs.declared.Job.the-variants.{Resting, Working}
 use Rattle.decisions.specs.declared.Entry.{Entry}
 use Rattle.decisions.specs.declared.Head.{Head}
 use Rattle.decisions.specs.declared.Count.{Count}
-use Rattle.decisions.specs.declared.Count.the-variants.{Runs, Slots, Tails}
+use Rattle.decisions.specs.declared.Count.the-variants.{Runs, Slots, Tails, Wakings}
 use Rattle.decisions.specs.declared.Tick.{Tick}
 use Rattle.decisions.specs.declared.Tick.the-variants.{Run, Slot, Tail}
 
+-- `sinceBoundary` is t mod H, the ticks since the last boundary.
+abbrev pub sinceBoundary : Head → ℕ
+sinceBoundary head = head .clock % head .sleep .period
+
 -- `lastBoundary` is the last boundary at or before the clock.
 abbrev pub lastBoundary : Head → ℕ
-lastBoundary head = head .clock - head .clock % head .sleep .period
+lastBoundary head = head .clock - sinceBoundary head
 
 -- The clock stands in a sleep slot where t mod H is below S.
 abbrev pub inSlot : Head → Bool
-inSlot head = ltb (head .clock % head .sleep .period) (head .sleep .work)
+inSlot head = ltb (sinceBoundary head) (head .sleep .work)
 
 -- A job may run from the smallest multiple of H that is at least its release.
 abbrev pub mayRun : Head → Job → Bool
@@ -44,8 +48,12 @@ workedJob (Working a l) = cond (leb l 1) Resting (Working a (l - 1))
 abbrev pub workedOf : Entry → Entry
 workedOf e = record { task = e .task; job = workedJob (e .job); last = e .last }
 
--- A tick raises the count of its kind.
+-- A slot tick is a waking one where t mod H is at least S − V: it is one of the last V of its slot.
+abbrev pub wakes : Head → Bool
+wakes head = leb (head .sleep .work - head .waking) (sinceBoundary head)
+
+-- A tick raises the count of its kind, a slot tick that of the waking ticks where it is one.
 abbrev pub countOf : Head → Tick → Count
 countOf head (Run k) = Runs
-countOf head Slot = Slots
+countOf head Slot = cond (wakes head) Wakings Slots
 countOf head Tail = Tails

@@ -3,9 +3,9 @@
 // it changes, and the energy of a tally. specs/ says what each gives.
 ghost use mathlib.Core.Path.{_≡_};
 ghost use Prim.Native.Nat.{_-_, _<_};
-ghost use Rattle.decisions.specs.Fits.{lastFits, lastIs, jobFits, taskFits, restsNever, spareFits, placeFits, headFits, total, tallyFits};
+ghost use Rattle.decisions.specs.Fits.{lastFits, lastIs, jobFits, taskFits, restsNever, spareFits, placeFits, wakingFits, headFits, total, tallyFits};
 ghost use Rattle.decisions.specs.Asks.{working, early, askSpacing, mayRelease, mayStep};
-ghost use Rattle.decisions.specs.Ticks.{lastBoundary, inSlot, came, runOrTail, workedOf, countOf};
+ghost use Rattle.decisions.specs.Ticks.{sinceBoundary, lastBoundary, inSlot, wakes, came, runOrTail, workedOf, countOf};
 ghost use Rattle.decisions.specs.Energies.{energyOf};
 use table::MOST_TASKS;
 use table::Record;
@@ -37,18 +37,21 @@ pub struct Entry {
     pub last: Last,
 }
 
-// A head is what a state holds beside its entries: the sleep record, the number of tasks and the clock.
+// A head is what a state holds beside its entries: the sleep record, the number of tasks, the clock
+// and the waking length V.
 pub struct Head {
     pub sleep: Record,
     pub n: u32,
     pub clock: u32,
+    pub waking: u32,
 }
 
-// A tally counts the ticks of a run by kind. They sum to the clock.
+// A tally counts the ticks of a run by kind, a slot tick as slot or as waking. They sum to the clock.
 pub struct Tally {
     pub run: u32,
     pub slot: u32,
     pub tail: u32,
+    pub waking: u32,
 }
 
 // `Count` names a count of a tally.
@@ -56,6 +59,7 @@ pub enum Count {
     Runs,
     Slots,
     Tails,
+    Wakings,
 }
 
 // `Tick` says what a tick was: a run of the task with that number, a slot tick or a tail tick.
@@ -76,8 +80,8 @@ pub struct EnergyReading {
 }
 
 // The energy of a tally is given in nanojoules, powers in microwatts; refusals 6 and 13 come with energy 0.
-pub fn energy(tally: Tally, run: u32, sleep: u32) -> EnergyReading
-    ensures { λ r. ⌜ r ≡ energyOf tally run sleep ⌝ }
+pub fn energy(tally: Tally, run: u32, sleep: u32, waking: u32) -> EnergyReading
+    ensures { λ r. ⌜ r ≡ energyOf tally run sleep waking ⌝ }
 {
     if (CLOCK_END as u64) < total_of(tally) {
         return EnergyReading {
@@ -97,17 +101,31 @@ pub fn energy(tally: Tally, run: u32, sleep: u32) -> EnergyReading
             nanojoules: 0,
         };
     }
-    let awake = tally.run as u64 * run as u64;
-    let slot = tally.slot as u64 * sleep as u64;
-    let tail = tally.tail as u64 * sleep as u64;
+    if POWER_MOST < waking {
+        return EnergyReading {
+            answer: Answer::Refused(Refusal::Power),
+            nanojoules: 0,
+        };
+    }
+    let runs = tally.run as u64 * run as u64;
+    let slots = tally.slot as u64 * sleep as u64;
+    let tails = tally.tail as u64 * sleep as u64;
+    let wakings = tally.waking as u64 * waking as u64;
     EnergyReading {
         answer: Answer::Accepted,
-        nanojoules: awake + slot + tail,
+        nanojoules: runs + slots + tails + wakings,
     }
 }
 
-// `head_fits` tests the rules that are not of a place: the number of tasks, the clock, and the
-// sleep record beside the first task's.
+// `waking_fits` tells whether a waking length is at most S.
+pub fn waking_fits(waking: u32, sleep: Record) -> bool
+    ensures { λ r. ⌜ r ≡ wakingFits waking sleep ⌝ }
+{
+    waking <= sleep.work
+}
+
+// `head_fits` tests the rules that are not of a place: the number of tasks, the clock, the sleep
+// record beside the first task's, and the waking length.
 pub fn head_fits(head: Head, first: Record) -> bool
     ensures { λ r. ⌜ r ≡ headFits head first ⌝ }
 {
@@ -124,7 +142,10 @@ pub fn head_fits(head: Head, first: Record) -> bool
     if !record_fits(sleep) {
         return false;
     }
-    sleep_fits(sleep, first)
+    if !sleep_fits(sleep, first) {
+        return false;
+    }
+    waking_fits(head.waking, sleep)
 }
 
 // `place_fits` tells whether place i, after one of period `above` (0 where it is the first), keeps
@@ -241,7 +262,7 @@ fn rests_never(job: Job, last: Last) -> bool
 fn total_of(tally: Tally) -> u64
     ensures { λ r. ⌜ r ≡ total tally ⌝ }
 {
-    tally.run as u64 + tally.slot as u64 + tally.tail as u64
+    tally.run as u64 + tally.slot as u64 + tally.tail as u64 + tally.waking as u64
 }
 
 // `tally_fits` tells whether a tally's counts, any numbers, sum to the clock.
@@ -332,26 +353,42 @@ pub fn may_step(fits: bool, tally: Tally, clock: u32) -> Answer
     Answer::Accepted
 }
 
-// `in_slot` tells whether the clock stands in a sleep slot. With an H of 0 the clock itself counts.
+// `since_boundary` is t mod H. With an H of 0 it is the clock itself.
+fn since_boundary(head: Head) -> u32
+    ensures { λ r. ⌜ r ≡ sinceBoundary head ⌝ }
+{
+    let sleep = head.sleep;
+    if sleep.period == 0 {
+        return head.clock;
+    }
+    head.clock % sleep.period
+}
+
+// `in_slot` tells whether the clock stands in a sleep slot.
 pub fn in_slot(head: Head) -> bool
     ensures { λ r. ⌜ r ≡ inSlot head ⌝ }
 {
     let sleep = head.sleep;
-    if sleep.period == 0 {
-        return head.clock < sleep.work;
-    }
-    head.clock % sleep.period < sleep.work
+    since_boundary(head) < sleep.work
 }
 
 // `last_boundary` is the last boundary at or before the clock; it is 0 with an H of 0.
 pub fn last_boundary(head: Head) -> u32
     ensures { λ r. ⌜ r ≡ lastBoundary head ⌝ }
 {
+    head.clock - since_boundary(head)
+}
+
+// `wakes` tells whether a slot tick at the clock is one of the last V of its slot. Where V is above
+// S, which no state that keeps its rules has, every one is: S − V is then 0, as in the definition.
+fn wakes(head: Head) -> bool
+    ensures { λ r. ⌜ r ≡ wakes head ⌝ }
+{
     let sleep = head.sleep;
-    if sleep.period == 0 {
-        return 0;
+    if sleep.work < head.waking {
+        return true;
     }
-    head.clock - head.clock % sleep.period
+    sleep.work - head.waking <= since_boundary(head)
 }
 
 // A tick outside the slot is a run of the task at place i where that is one of the n, else a tail tick.
@@ -370,7 +407,13 @@ pub fn count_of(head: Head, tick: Tick) -> Count
 {
     match tick {
         Tick::Run(_) => Count::Runs,
-        Tick::Slot => Count::Slots,
+        Tick::Slot => {
+            if wakes(head) {
+                Count::Wakings
+            } else {
+                Count::Slots
+            }
+        }
         Tick::Tail => Count::Tails,
     }
 }

@@ -1,7 +1,7 @@
 -- Every history from a fresh start keeps the rules of state and tally, so that no call is refused with 6; and it keeps
 -- the accounts, task by task and in all: the ticks run and the work left are the demands accepted.
 use Prim.Native.Nat.{ℕ, _+_, _-_, _≤_, _<_}
-use mathlib.Core.Path.{_≡_, refl, ap, sym}
+use mathlib.Core.Path.{_≡_, refl, ap, sym, _∙_}
 use mathlib.Core.Logic.{_≢_}
 use mathlib.Core.List.{List, [], _∷_}
 use mathlib.Core.Bool.{Bool, true, false, cond}
@@ -15,22 +15,24 @@ use Rattle.base.proofs.Split.{by-eq}
 use Rattle.base.proofs.SumLaws.{sumTo-zero, plus-same, plus-other, sum-plus, sum-same}
 use Rattle.base.proofs.FoldLaws.{folded-keeps}
 use Rattle.table.specs.declared.Reading.the-variants as read
-use Rattle.table.specs.Sound.{places, readOf}
+use Rattle.table.specs.Sound.{places}
 use Rattle.decisions.specs.declared.Job.{Job}
 use Rattle.decisions.specs.declared.Job.the-variants.{Resting, Working}
 use Rattle.decisions.specs.declared.Entry.{Entry}
 use Rattle.decisions.specs.declared.Head.{Head}
 use Rattle.scheduler.specs.declared.State.{State}
 use Rattle.decisions.specs.declared.Tally.{Tally}
+use Rattle.decisions.specs.declared.Count.the-variants.{Slots, Wakings}
+use Rattle.decisions.specs.declared.Tick.the-variants.{Slot}
 use Rattle.scheduler.specs.declared.Ticked.the-variants as ticked
 use Rattle.decisions.specs.declared.Answer.{Answer}
 use Rattle.decisions.specs.declared.Answer.the-variants.{Accepted, Refused}
 use Rattle.decisions.specs.Fits.{clockEnd, total}
 use Rattle.scheduler.specs.States.{headOf, entryIn}
 use Rattle.scheduler.specs.Lawful.{Lawful-state}
-use Rattle.scheduler.specs.Starts.{Given, freshState}
+use Rattle.scheduler.specs.Starts.{Given, readGiven, freshState}
 use Rattle.scheduler.specs.Releases.{releaseAnswer, releasedEntry, releasedState}
-use Rattle.decisions.specs.Ticks.{mayRun, workedJob, workedOf, countOf}
+use Rattle.decisions.specs.Ticks.{mayRun, workedJob, workedOf, wakes, countOf}
 use Rattle.scheduler.specs.Steps.{firstReady, tickOf, afterRun, afterTick, raised, stepOf}
 use Rattle.histories.specs.History.{Call, release, step, lend, Own, Past, ran, next, after, begun, workLeft, leftIn}
 use Rattle.scheduler.proofs.PlaceLaws.{Sized, One-place, Keeps, keeps-lawful}
@@ -164,6 +166,19 @@ kept-next p (lend t) K = kept-step (p .state) t (p .demands) (p .runs) K
 pub kept-after : (p : Past) (calls : List Call) → Kept p → Kept (after p calls)
 kept-after = folded-keeps Kept next kept-next
 
+-- A slot tick raises slot and waking ticks together by one, and leaves runs and tails.
+pub record Slot-raised (t u : Tally) : Type 0 where
+  pub runs-stay : u .run ≡ t .run
+  pub tails-stay : u .tail ≡ t .tail
+  pub slots-up : u .slot + u .waking ≡ t .slot + t .waking + 1
+
+pub slot-raised : (head : Head) (t : Tally) → Slot-raised t (raised t (countOf head Slot))
+slot-raised head t = go (wakes head)
+  where
+    go : (b : Bool) → Slot-raised t (raised t (cond b Wakings Slots))
+    go true = record { runs-stay = refl; tails-stay = refl; slots-up = omega arith }
+    go false = record { runs-stay = refl; tails-stay = refl; slots-up = omega arith }
+
 -- A call that lends no other tally keeps the counts.
 pub counted-next : (p : Past) (call : Call) → Own call → p .state .n ≤ places → Counted p → Counted (next p call)
 unfolding next
@@ -178,7 +193,9 @@ counted-next p step own few C = go (step-is (p .state) (p .tally))
     s = p .state
 
     by-tick : Tick-is s → Counts (raised (p .tally) (countOf (headOf s) (tickOf s))) (afterTick s (tickOf s)) (ran (p .runs) (ticked.Tick (tickOf s)))
-    by-tick (slots a e) = rw e (record { counted = omega (arith, C .counted); run-total = C .run-total })
+    by-tick (slots a e) =
+        let S = slot-raised (headOf s) (p .tally) in
+        rw e (record { counted = omega (arith, C .counted, S .runs-stay, S .tails-stay, S .slots-up); run-total = S .runs-stay ∙ C .run-total })
     by-tick (tails a b e) = rw e (record { counted = omega (arith, C .counted); run-total = C .run-total })
     by-tick (runs a b e) =
         let same : firstReady s + 1 - 1 ≡ firstReady s = omega arith in
@@ -196,7 +213,7 @@ counted-after p [] own K C = C
 counted-after p (call ∷ calls) own K C = counted-after (next p call) calls (own .1) (kept-next p call K) (counted-next p call (own .0) (K .lawful-state .few) C)
 
 -- A fresh start keeps both the accounts and the counts.
-pub kept-begun : (g : Given) (n : ℕ) → readOf (g .table) ≡ read.Sound n → Kept (begun (freshState g n))
+pub kept-begun : (g : Given) (n : ℕ) → readGiven g ≡ read.Sound n → Kept (begun (freshState g n))
 kept-begun g n e =
     let L = fresh-lawful g n e in
     record {
@@ -209,12 +226,12 @@ pub counted-begun : (g : Given) (n : ℕ) → Counted (begun (freshState g n))
 counted-begun g n = record { counted = refl; run-total = sym (sumTo-zero places) }
 
 -- EVERY HISTORY FROM A FRESH START keeps the accounts, and the counts where it lends no other tally.
-pub history-kept : (g : Given) (n : ℕ) (calls : List Call) → readOf (g .table) ≡ read.Sound n → Kept (after (begun (freshState g n)) calls)
+pub history-kept : (g : Given) (n : ℕ) (calls : List Call) → readGiven g ≡ read.Sound n → Kept (after (begun (freshState g n)) calls)
 history-kept g n calls e = kept-after (begun (freshState g n)) calls (kept-begun g n e)
 
-pub history-counted : (g : Given) (n : ℕ) (calls : List Call) → readOf (g .table) ≡ read.Sound n → Each Own calls → Counted (after (begun (freshState g n)) calls)
+pub history-counted : (g : Given) (n : ℕ) (calls : List Call) → readGiven g ≡ read.Sound n → Each Own calls → Counted (after (begun (freshState g n)) calls)
 history-counted g n calls e own = counted-after (begun (freshState g n)) calls own (kept-begun g n e) (counted-begun g n)
 
 -- The accounts of a history balance: run ticks and all work left are the accepted demands.
-pub accounts : (p : Past) → Kept p → Counted p → p .tally .run + sumTo places (leftIn (p .state)) ≡ sumTo places (p .demands)
-accounts p K C = omega (arith, C .run-total, sum-same places (p .runs) (leftIn (p .state)) (p .demands) (K .each))
+pub accounts : (p : Past) → ((i : ℕ) → i < places → p .runs i + leftIn (p .state) i ≡ p .demands i) → Counted p → p .tally .run + sumTo places (leftIn (p .state)) ≡ sumTo places (p .demands)
+accounts p each C = omega (arith, C .run-total, sum-same places (p .runs) (leftIn (p .state)) (p .demands) each)

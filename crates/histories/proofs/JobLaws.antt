@@ -12,7 +12,6 @@ use Rattle.base.specs.List.{In}
 use Rattle.base.proofs.Split.{by-eq}
 use Rattle.base.proofs.FoldLaws.{folded-keeps}
 use Rattle.table.specs.declared.Reading.the-variants as read
-use Rattle.table.specs.Sound.{readOf}
 use Rattle.decisions.specs.declared.Job.{Job}
 use Rattle.decisions.specs.declared.Job.the-variants.{Resting, Working}
 use Rattle.decisions.specs.declared.Entry.{Entry}
@@ -24,7 +23,7 @@ use Rattle.decisions.specs.declared.Answer.the-variants.{Accepted, Refused}
 use Rattle.decisions.specs.Fits.{clockEnd}
 use Rattle.scheduler.specs.States.{entryIn, aged}
 use Rattle.scheduler.specs.Lawful.{Lawful-state}
-use Rattle.scheduler.specs.Starts.{Given, freshState}
+use Rattle.scheduler.specs.Starts.{Given, readGiven, freshState}
 use Rattle.scheduler.specs.Releases.{releaseAnswer, releasedState}
 use Rattle.decisions.specs.Ticks.{workedJob, workedOf}
 use Rattle.scheduler.specs.Steps.{firstReady, tickOf, afterRun, afterTick, stepOf}
@@ -150,7 +149,7 @@ followed-next p step K F = λ j i. stands-next (j .at) j p step K (F j i)
 followed-next p (lend t) K F = λ j i. stands-next (j .at) j p (lend t) K (F j i)
 
 -- EVERY ACCEPTED RELEASE OF A HISTORY IS FOLLOWED.
-pub history-followed : (g : Given) (n : ℕ) (calls : List Call) (j : Taken) → readOf (g .table) ≡ read.Sound n
+pub history-followed : (g : Given) (n : ℕ) (calls : List Call) (j : Taken) → readGiven g ≡ read.Sound n
     → In j (after (begun (freshState g n)) calls .taken) → Followed (after (begun (freshState g n)) calls) j
 unfolding In
 history-followed g n calls j e =

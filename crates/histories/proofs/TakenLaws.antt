@@ -12,7 +12,7 @@ use Rattle.base.specs.List.{In}
 use Rattle.base.proofs.Split.{by-eq}
 use Rattle.base.proofs.FoldLaws.{folded-keeps}
 use Rattle.table.specs.declared.Reading.the-variants as read
-use Rattle.table.specs.Sound.{places, readOf}
+use Rattle.table.specs.Sound.{places}
 use Rattle.decisions.specs.declared.Job.{Job}
 use Rattle.decisions.specs.declared.Job.the-variants.{Resting, Working}
 use Rattle.decisions.specs.declared.Entry.{Entry}
@@ -24,7 +24,7 @@ use Rattle.decisions.specs.declared.Answer.the-variants.{Accepted, Refused}
 use Rattle.decisions.specs.Fits.{clockEnd}
 use Rattle.scheduler.specs.States.{entryIn}
 use Rattle.scheduler.specs.Lawful.{Lawful-state}
-use Rattle.scheduler.specs.Starts.{Given, freshState}
+use Rattle.scheduler.specs.Starts.{Given, readGiven, freshState}
 use Rattle.scheduler.specs.Releases.{releaseAnswer, releasedEntry, releasedState}
 use Rattle.decisions.specs.Ticks.{workedJob, workedOf}
 use Rattle.scheduler.specs.Steps.{firstReady, tickOf, afterRun, afterTick, stepOf}
@@ -112,7 +112,7 @@ sourced-next p step K S = sourced-step (p .state) (p .tally) (p .taken) (p .fini
 sourced-next p (lend t) K S = sourced-step (p .state) t (p .taken) (p .finishes) (K .sized) (K .lawful-state) S
 
 -- EVERY JOB OF A HISTORY WAS RELEASED.
-pub history-sourced : (g : Given) (n : ℕ) (calls : List Call) → readOf (g .table) ≡ read.Sound n → From-releases (after (begun (freshState g n)) calls)
+pub history-sourced : (g : Given) (n : ℕ) (calls : List Call) → readGiven g ≡ read.Sound n → From-releases (after (begun (freshState g n)) calls)
 unfolding In
 history-sourced g n calls e =
     folded-keeps (λ (q : Past). Kept q × From-releases q) next (λ q call x. (kept-next q call (x .0), sourced-next q call (x .0) (x .1)))

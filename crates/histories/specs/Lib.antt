@@ -4,3 +4,5 @@ pub mod History
 pub mod Jobs
 -- `Pattern` gives the worst pattern as a list of calls.
 pub mod Pattern
+-- `Waking` says in what two histories of different waking lengths may differ, and what whole periods count.
+pub mod Waking

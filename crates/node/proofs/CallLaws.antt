@@ -26,9 +26,9 @@ use Rattle.decisions.specs.declared.Entry.{Entry}
 use Rattle.decisions.specs.declared.Head.{Head}
 use Rattle.decisions.specs.declared.Tick.{Tick}
 use Rattle.decisions.specs.declared.Tick.the-variants.{Run, Slot, Tail}
-use Rattle.decisions.specs.Fits.{clockEnd, headFits}
+use Rattle.decisions.specs.Fits.{clockEnd, wakingFits, headFits}
 use Rattle.scheduler.specs.States.{headOf, entryIn, recordIn, periodBefore, placesFit, stateFits}
-use Rattle.scheduler.specs.Starts.{startOf}
+use Rattle.scheduler.specs.Starts.{Given, startOf}
 use Rattle.decisions.specs.Asks.{mayRelease, mayStep}
 use Rattle.scheduler.specs.Releases.{releaseAnswer, releasedState}
 use Rattle.scheduler.specs.Steps.{tickOf, made, stepOf}
@@ -85,7 +85,8 @@ fits-parts words head H =
 pub few-tasks : (head : Head) (first : Record) → headFits head first ≡ true → head .n ≤ places
 few-tasks head first e =
     let r = leb 1 (head .n) && leb (head .n) places in
-    let x = both (r && leb (head .clock) clockEnd && recordFits (head .sleep)) (sleepFits (head .sleep) first) e .0 in
+    let w = both (r && leb (head .clock) clockEnd && recordFits (head .sleep) && sleepFits (head .sleep) first) (wakingFits (head .waking) (head .sleep)) e .0 in
+    let x = both (r && leb (head .clock) clockEnd && recordFits (head .sleep)) (sleepFits (head .sleep) first) w .0 in
     let y = both (r && leb (head .clock) clockEnd) (recordFits (head .sleep)) x .0 in
     let z = both r (leb (head .clock) clockEnd) y .0 in
     leb-true (head .n) places (both (leb 1 (head .n)) (leb (head .n) places) z .1)
@@ -172,10 +173,10 @@ step-leaves words tally r = by-eq (length tally) tallySize ((stepOn words tally 
     go (Refused f) l = (refl, refl)
 
 -- An answer with a number leaves the words at a start too, and at an admission but for number 5.
-pub start-leaves : (table words : List ℕ) → 1 ≤ startOn table words .answer % 256 → startOn table words .state ≡ words
-start-leaves table words r = go (startOf (record { table = table }) .answer) refl (eqb (length words) stateSize) refl
+pub start-leaves : (g : Given) (words : List ℕ) → 1 ≤ startOn g words .answer % 256 → startOn g words .state ≡ words
+start-leaves g words r = go (startOf g .answer) refl (eqb (length words) stateSize) refl
   where
-    go : (a : Answer) → startOf (record { table = table }) .answer ≡ a → (b : Bool) → eqb (length words) stateSize ≡ b → startOn table words .state ≡ words
+    go : (a : Answer) → startOf g .answer ≡ a → (b : Bool) → eqb (length words) stateSize ≡ b → startOn g words .state ≡ words
     go (Refused f) q b e = rw q
     go Accepted q false e = rw (q, e)
     go Accepted q true e = let z : 1 ≤ 0 % 256 = rw (q, e) at r in absurd (let y : ⊥ = omega arith in y)

@@ -25,7 +25,7 @@ use Rattle.decisions.specs.declared.Last.the-variants.{Never, At}
 use Rattle.decisions.specs.declared.Entry.{Entry}
 use Rattle.scheduler.specs.declared.State.{State}
 use Rattle.decisions.specs.declared.Count.{Count}
-use Rattle.decisions.specs.declared.Count.the-variants.{Runs, Slots, Tails}
+use Rattle.decisions.specs.declared.Count.the-variants.{Runs, Slots, Tails, Wakings}
 use Rattle.decisions.specs.Fits.{noEntry, zeroed, restsNever, spareFits}
 use Rattle.scheduler.specs.States.{entryIn, withEntry, aged, withEntries}
 use Rattle.scheduler.specs.Releases.{releasedEntry}
@@ -33,7 +33,7 @@ use Rattle.decisions.specs.Ticks.{workedOf}
 use Rattle.scheduler.specs.Steps.{afterRun, raised}
 use Rattle.base.proofs.EveryLaws.{every-says, says-every}
 use Rattle.node.specs.Words.{puts}
-use Rattle.node.specs.Layout.{headSize, clockAt, runAt, slotAt, tailAt, labelAt, workAt, periodAt, reservedAt, jobAt, releaseAt, leftAt, lastAt, tickAt, placeSize, stateSize, placeStart, tallySize, recordWords, jobWords, lastWords, entryWords, placesWords, headWords, stateWords, tallyWords, verdictSize, byPlace, verdictWords, wordIn, recordFrom, jobFrom, lastFrom, entryFrom, entriesIn, stateIn, tallyIn, anyWord, kindEncoded, placeEncoded, encoded}
+use Rattle.node.specs.Layout.{headSize, clockAt, runAt, slotAt, tailAt, wakingsAt, labelAt, workAt, periodAt, reservedAt, jobAt, releaseAt, leftAt, lastAt, tickAt, placeSize, stateSize, placeStart, tallySize, recordWords, jobWords, lastWords, entryWords, placesWords, headWords, stateWords, tallyWords, verdictSize, byPlace, verdictWords, wordIn, recordFrom, jobFrom, lastFrom, entryFrom, entriesIn, stateIn, tallyIn, anyWord, kindEncoded, placeEncoded, encoded}
 use Rattle.base.proofs.ListLaws.{length-list, list-at, list-same, list-back}
 use Rattle.node.proofs.WordLaws.{length-puts, puts-out, puts-in, puts-append, puts-from, puts-whole}
 
@@ -318,8 +318,10 @@ abbrev pub countAt : Count → ℕ
 countAt Runs = runAt
 countAt Slots = slotAt
 countAt Tails = tailAt
+countAt Wakings = wakingsAt
 
 pub count-put : (words : List ℕ) (count : Count) → length words ≡ tallySize → set words (countAt count) (wordIn words (countAt count) + 1) ≡ tallyWords (raised (tallyIn words) count)
 count-put words Runs l = ap (λ (x : List ℕ). set x runAt (wordIn words runAt + 1)) (sym (tally-written-back words l))
 count-put words Slots l = ap (λ (x : List ℕ). set x slotAt (wordIn words slotAt + 1)) (sym (tally-written-back words l))
 count-put words Tails l = ap (λ (x : List ℕ). set x tailAt (wordIn words tailAt + 1)) (sym (tally-written-back words l))
+count-put words Wakings l = ap (λ (x : List ℕ). set x wakingsAt (wordIn words wakingsAt + 1)) (sym (tally-written-back words l))

@@ -2,10 +2,11 @@
 use Prim.Native.Nat.{ℕ, _+_, _-_, _*_}
 use mathlib.Core.Path.{_≡_}
 use mathlib.Core.List.{List}
-use mathlib.Core.Bool.{Bool, cond, _&&_}
-use lib.Dec.{eqb}
+use mathlib.Core.Bool.{Bool, cond, not, _&&_, _||_}
+use lib.Dec.{eqb, ltb}
 use lib.ListN.{length, getD}
 use Rattle.base.specs.Every.{every}
+use Rattle.table.specs.declared.Refusal.{Refusal}
 use Rattle.table.specs.declared.Refusal.the-variants.{Unfit}
 use Rattle.table.specs.declared.Told.{Told}
 use Rattle.table.specs.Refusals.{toldOf, searchGives}
@@ -27,7 +28,7 @@ use Rattle.scheduler.specs.declared.Moved.{Moved}
 use Rattle.decisions.specs.declared.EnergyReading.{EnergyReading}
 use Rattle.decisions.specs.Fits.{noEntry, placeFits}
 use Rattle.scheduler.specs.States.{headOf, stateFits, periodBefore}
-use Rattle.scheduler.specs.Starts.{startOf}
+use Rattle.scheduler.specs.Starts.{Given, startOf}
 use Rattle.scheduler.specs.Releases.{releaseOf}
 use Rattle.scheduler.specs.Steps.{stepOf}
 use Rattle.decisions.specs.Energies.{energyOf}
@@ -85,15 +86,21 @@ judgedOn v words (judgement.Refused r) =
 abbrev pub admitOn : List ℕ → List ℕ → VerdictLeft
 admitOn table words = judgedOn (admitOf table) words (admitOf table .answer)
 
--- A refused start leaves the buffer as it is.
+-- `afterUnfit` tells whether a refusal's number is above 6.
+abbrev pub afterUnfit : Refusal → Bool
+afterUnfit r = ltb (toldOf Unfit .number) (toldOf r .number)
+
+-- A refused start leaves the buffer as it is; where the buffer has another length it gets 6, unless a lower number
+-- applies.
 abbrev pub startedOn : Started → List ℕ → Answer → StateLeft
 startedOn s words Accepted =
     cond (eqb (length words) stateSize) (record { answer = 0; state = stateWords (s .state) }) (record { answer = unfitAnswer; state = words })
-startedOn s words (Refused r) = record { answer = toldAnswer (toldOf r); state = words }
+startedOn s words (Refused r) =
+    record { answer = cond (eqb (length words) stateSize || not (afterUnfit r)) (toldAnswer (toldOf r)) unfitAnswer; state = words }
 
--- A START on a table leaves its answer and the words of the fresh state.
-abbrev pub startOn : List ℕ → List ℕ → StateLeft
-startOn table words = startedOn (startOf (record { table = table })) words (startOf (record { table = table }) .answer)
+-- A START leaves its answer and the words of the fresh state.
+abbrev pub startOn : Given → List ℕ → StateLeft
+startOn g words = startedOn (startOf g) words (startOf g .answer)
 
 -- A RELEASE on words is the release on the state that they encode.
 abbrev pub releasedOn : Released → StateLeft
@@ -116,8 +123,8 @@ stepOn words tally =
 abbrev pub readingAnswer : EnergyReading → ℕ
 readingAnswer e = answered (e .answer) + 256 * e .nanojoules
 
-unfoldable pub energyOn : List ℕ → ℕ → ℕ → ℕ
-energyOn tally run sleep = cond (tallyEncoded tally) (readingAnswer (energyOf (tallyIn tally) run sleep)) unfitAnswer
+unfoldable pub energyOn : List ℕ → ℕ → ℕ → ℕ → ℕ
+energyOn tally run sleep waking = cond (tallyEncoded tally) (readingAnswer (energyOf (tallyIn tally) run sleep waking)) unfitAnswer
 
 -- Words fit where they encode a state and it keeps its rules.
 abbrev pub wordsFit : List ℕ → Bool

@@ -22,7 +22,7 @@ use Rattle.decisions.specs.Fits.{noEntry}
 
 -- These say HOW MANY WORDS stand before the first place, and how many a place, a state, a tally and a verdict have.
 abbrev pub headSize : ℕ
-headSize = 6
+headSize = 7
 
 abbrev pub placeSize : ℕ
 placeSize = 9
@@ -31,7 +31,7 @@ abbrev pub stateSize : ℕ
 stateSize = headSize + placeSize * places
 
 abbrev pub tallySize : ℕ
-tallySize = 3
+tallySize = 4
 
 abbrev pub verdictSize : ℕ
 verdictSize = places + places + places
@@ -80,12 +80,15 @@ pub record Room (words : List ℕ) (k : ℕ) : Type 0 where
   pub last : k + lastAt < length words
   pub tick : k + tickAt < length words
 
--- The number n and the clock stand after the sleep record.
+-- The number n, the clock and the waking length stand after the sleep record.
 abbrev pub nAt : ℕ
 nAt = 4
 
 abbrev pub clockAt : ℕ
 clockAt = 5
+
+abbrev pub wakingAt : ℕ
+wakingAt = 6
 
 -- These say where the counts of a tally stand.
 abbrev pub runAt : ℕ
@@ -96,6 +99,9 @@ slotAt = 1
 
 abbrev pub tailAt : ℕ
 tailAt = 2
+
+abbrev pub wakingsAt : ℕ
+wakingsAt = 3
 
 -- A record IS WRITTEN as its label, work, period and reserved field.
 abbrev pub recordWords : Record → List ℕ
@@ -120,17 +126,17 @@ unfoldable pub placesWords : List Entry → ℕ → List ℕ
 placesWords entries zero = []
 placesWords entries (suc i) = placesWords entries i ++ entryWords (getD entries i noEntry)
 
--- What stands before the places is the sleep record, n and the clock.
+-- What stands before the places is the sleep record, n, the clock and the waking length.
 abbrev pub headWords : State → List ℕ
-headWords s = recordWords (s .sleep) ++ s .n ∷ s .clock ∷ []
+headWords s = recordWords (s .sleep) ++ s .n ∷ s .clock ∷ s .waking ∷ []
 
 -- A STATE is written as what stands before its places, then all places.
 abbrev pub stateWords : State → List ℕ
 stateWords s = headWords s ++ placesWords (s .entries) places
 
--- A TALLY is written as its run, slot and tail counts.
+-- A TALLY is written as its run, slot, tail and waking counts.
 abbrev pub tallyWords : Tally → List ℕ
-tallyWords t = t .run ∷ t .slot ∷ t .tail ∷ []
+tallyWords t = t .run ∷ t .slot ∷ t .tail ∷ t .waking ∷ []
 
 -- A VERDICT is written as its windows, figures and rounds by place.
 abbrev pub byPlace : List ℕ → List ℕ
@@ -167,10 +173,12 @@ abbrev pub entriesIn : List ℕ → List Entry
 entriesIn words = listFrom (λ i. entryFrom words (placeStart i)) places
 
 abbrev pub stateIn : List ℕ → State
-stateIn words = record { sleep = recordFrom words 0; n = wordIn words nAt; clock = wordIn words clockAt; entries = entriesIn words }
+stateIn words =
+    record { sleep = recordFrom words 0; n = wordIn words nAt; clock = wordIn words clockAt; waking = wordIn words wakingAt; entries = entriesIn words }
 
 abbrev pub tallyIn : List ℕ → Tally
-tallyIn words = record { run = wordIn words runAt; slot = wordIn words slotAt; tail = wordIn words tailAt }
+tallyIn words =
+    record { run = wordIn words runAt; slot = wordIn words slotAt; tail = wordIn words tailAt; waking = wordIn words wakingsAt }
 
 -- A kind is encoded where it is 1, or it is 0 and so is what it would carry.
 abbrev pub kindEncoded : ℕ → ℕ → ℕ → Bool

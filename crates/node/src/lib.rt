@@ -17,7 +17,7 @@ ghost use Rattle.decisions.specs.Ticks.{came, workedOf};
 ghost use Rattle.scheduler.specs.Steps.{tickOf, afterTick, raised};
 ghost use Rattle.node.specs.Words.{puts};
 ghost use Rattle.node.specs.Layout.{Room, labelAt, jobAt, releaseAt, leftAt, lastAt, tickAt, stateSize, tallySize, verdictSize, recordWords, jobWords, lastWords, entryWords, stateWords, tallyWords, byPlace, verdictWords, wordIn, recordFrom, jobFrom, lastFrom, entryFrom, entriesIn, stateIn, tallyIn, anyWord, kindEncoded, placeEncoded, encoded};
-ghost use Rattle.node.specs.Calls.{packed, toldAnswer, unfitAnswer, tickAnswer, admitOn, startOn, releaseOn, stepOn, energyOn, Headed, wordsFit, placeFitsIn, placesFitIn, sparesBlank};
+ghost use Rattle.node.specs.Calls.{packed, toldAnswer, unfitAnswer, afterUnfit, tickAnswer, admitOn, startOn, releaseOn, stepOn, energyOn, Headed, wordsFit, placeFitsIn, placesFitIn, sparesBlank};
 use admission::Verdict;
 use admission::admit;
 use decisions::Answer;
@@ -49,14 +49,14 @@ use table::no_window;
 use table::tell;
 
 // These say how many words a state, a tally and a verdict have.
-pub const STATE_WORDS: usize = 150;
+pub const STATE_WORDS: usize = 151;
 
-pub const TALLY_WORDS: usize = 3;
+pub const TALLY_WORDS: usize = 4;
 
 pub const VERDICT_WORDS: usize = 48;
 
 // These say how many words a state has before its first place, and how many a place has.
-const HEAD_WORDS: usize = 6;
+const HEAD_WORDS: usize = 7;
 
 const PLACE_WORDS: usize = 9;
 
@@ -80,16 +80,20 @@ const LAST_AT: usize = 7;
 
 const TICK_AT: usize = 8;
 
-// These say where n and the clock stand in a state, and the counts in a tally.
+// These say where n, the clock and the waking length stand in a state, and the counts in a tally.
 const N_AT: usize = 4;
 
 const CLOCK_AT: usize = 5;
+
+const WAKING_AT: usize = 6;
 
 const RUN_AT: usize = 0;
 
 const SLOT_AT: usize = 1;
 
 const TAIL_AT: usize = 2;
+
+const WAKINGS_AT: usize = 3;
 
 // `node_admit` is the admission test. The verdict is written where the set is admitted or a task
 // has no window.
@@ -121,13 +125,13 @@ pub extern "C" fn node_admit(table: &[u8], verdict: &mut [u32]) -> u64
     }
 }
 
-// `node_start` writes a fresh state of a table, whole.
+// `node_start` writes a fresh state of a table and a waking length, whole.
 #[no_mangle]
-pub extern "C" fn node_start(table: &[u8], state: &mut [u32]) -> u64
-    ensures { λ r. ⌜ (r ≡ startOn (now (table .entry)) (now (state .entry)) .answer)
-        × (now (state .exit) ≡ startOn (now (table .entry)) (now (state .entry)) .state) ⌝ }
+pub extern "C" fn node_start(table: &[u8], waking: u32, state: &mut [u32]) -> u64
+    ensures { λ r. ⌜ (r ≡ startOn (record { table = now (table .entry); waking = waking }) (now (state .entry)) .answer)
+        × (now (state .exit) ≡ startOn (record { table = now (table .entry); waking = waking }) (now (state .entry)) .state) ⌝ }
 {
-    let started = start(table);
+    let started = start(table, waking);
     let answer = started.answer;
     match answer {
         Answer::Accepted => {
@@ -137,7 +141,16 @@ pub extern "C" fn node_start(table: &[u8], state: &mut [u32]) -> u64
             put_state(state, started.state);
             0
         }
-        Answer::Refused(refusal) => refused(refusal),
+        Answer::Refused(refusal) => {
+            if state.len() == STATE_WORDS {
+                return refused(refusal);
+            }
+            // Another length gets 6, which is given before a higher number.
+            if after_unfit(refusal) {
+                return unfit();
+            }
+            refused(refusal)
+        }
     }
 }
 
@@ -194,14 +207,14 @@ pub extern "C" fn node_step(state: &mut [u32], tally: &mut [u32]) -> u64
 
 // `node_energy` gives the energy of a tally.
 #[no_mangle]
-pub extern "C" fn node_energy(tally: &[u32], run: u32, sleep: u32) -> u64
-    ensures { λ r. ⌜ r ≡ energyOn (now (tally .entry)) run sleep ⌝ }
+pub extern "C" fn node_energy(tally: &[u32], run: u32, sleep: u32, waking: u32) -> u64
+    ensures { λ r. ⌜ r ≡ energyOn (now (tally .entry)) run sleep waking ⌝ }
 {
     if tally.len() != TALLY_WORDS {
         return unfit();
     }
     let counted = tally_in(tally);
-    let reading = energy(counted, run, sleep);
+    let reading = energy(counted, run, sleep, waking);
     let answer = reading.answer;
     match answer {
         Answer::Accepted => 256 * reading.nanojoules,
@@ -214,6 +227,15 @@ fn unfit() -> u64
     ensures { λ r. ⌜ r ≡ unfitAnswer ⌝ }
 {
     refused(Refusal::Unfit)
+}
+
+// `after_unfit` tells whether a refusal's number is above 6.
+fn after_unfit(refusal: Refusal) -> bool
+    ensures { λ r. ⌜ r ≡ afterUnfit refusal ⌝ }
+{
+    let told = tell(refusal);
+    let six = tell(Refusal::Unfit);
+    six.number < told.number
 }
 
 // `refused` is a refusal's answer.
@@ -252,6 +274,7 @@ fn head_in(state: &[u32]) -> Head
         sleep: sleep,
         n: state[N_AT],
         clock: state[CLOCK_AT],
+        waking: state[WAKING_AT],
     }
 }
 
@@ -474,6 +497,7 @@ fn tally_in(tally: &[u32]) -> Tally
         run: tally[RUN_AT],
         slot: tally[SLOT_AT],
         tail: tally[TAIL_AT],
+        waking: tally[WAKINGS_AT],
     }
 }
 
@@ -556,6 +580,7 @@ fn raise(tally: &mut [u32], count: Count)
         Count::Runs => raise_word(tally, RUN_AT),
         Count::Slots => raise_word(tally, SLOT_AT),
         Count::Tails => raise_word(tally, TAIL_AT),
+        Count::Wakings => raise_word(tally, WAKINGS_AT),
     }
 }
 
@@ -576,6 +601,7 @@ fn put_state(out: &mut [u32], s: State)
     put_record(out, 0, sleep);
     out[N_AT] = s.n;
     out[CLOCK_AT] = s.clock;
+    out[WAKING_AT] = s.waking;
     let entries = s.entries;
     let mut i: usize = 0;
     while i < PLACES {

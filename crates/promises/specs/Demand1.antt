@@ -9,8 +9,7 @@ use mathlib.Core.List.{List}
 use Rattle.table.specs.declared.Refusal.{Refusal}
 use Rattle.table.specs.declared.Refusal.the-variants.{Unfit}
 use Rattle.table.specs.Refusals.{toldOf}
-use Rattle.table.specs.Applies.{Lowest, Table-applies}
-use Rattle.table.proofs.ReadingLaws.{reading-refused-exactly}
+use Rattle.table.specs.Applies.{Lowest}
 use Rattle.admission.specs.declared.Answer.the-variants as verdict
 use Rattle.admission.specs.Applies.{Admission-applies}
 use Rattle.admission.specs.Verdicts.{admitOf}
@@ -24,7 +23,7 @@ use Rattle.scheduler.specs.Starts.{noState, startOf, Given}
 use Rattle.scheduler.specs.Releases.{releaseOf}
 use Rattle.scheduler.specs.Steps.{stepOf}
 use Rattle.decisions.specs.Energies.{energyOf}
-use Rattle.scheduler.specs.Applies.{Release-applies, Step-applies, Energy-applies}
+use Rattle.scheduler.specs.Applies.{Start-applies, Release-applies, Step-applies, Energy-applies}
 use Rattle.scheduler.proofs.ReleaseLaws.{release-refused}
 use Rattle.scheduler.proofs.StepLaws.{step-refused}
 use Rattle.scheduler.proofs.StartLaws.{no-state-refused}
@@ -55,13 +54,13 @@ pub record Any-input : Type 0 where
   pub any-words-may-be-read : Settles node.node_energy.ended node.node_energy.Reads.Asked node.node_energy.Reads.Learnt
 
 -- Bad input is refused by number: a call gets a refusal exactly when that one applies and none with a lower number does;
--- so admission gives 1 to 5, a start 1 to 4, a release 6 to 12, a step 6 and 7, an energy reading 6 and 13.
+-- so admission gives 1 to 5, a start 1 to 4 and 14, a release 6 to 12, a step 6 and 7, an energy reading 6 and 13.
 pub record Refused-by-number : Type 0 where
   pub admission-is-refused : (bytes : List ℕ) (r : Refusal) → (admitOf bytes .answer ≡ verdict.Refused r) ↔ Lowest (Admission-applies bytes) r
-  pub start-is-refused : (g : Given) (r : Refusal) → (startOf g .answer ≡ Refused r) ↔ Lowest (Table-applies (g .table)) r
+  pub start-is-refused : (g : Given) (r : Refusal) → (startOf g .answer ≡ Refused r) ↔ Lowest (Start-applies g) r
   pub release-is-refused : (s : State) (task demand : ℕ) (r : Refusal) → (releaseOf s task demand .answer ≡ Refused r) ↔ Lowest (Release-applies s task demand) r
   pub step-is-refused : (s : State) (t : Tally) (r : Refusal) → (stepOf s t .answer ≡ ticked.Refused r) ↔ Lowest (Step-applies s t) r
-  pub energy-is-refused : (t : Tally) (run sleep : ℕ) (r : Refusal) → (energyOf t run sleep .answer ≡ Refused r) ↔ Lowest (Energy-applies t run sleep) r
+  pub energy-is-refused : (t : Tally) (run sleep waking : ℕ) (r : Refusal) → (energyOf t run sleep waking .answer ≡ Refused r) ↔ Lowest (Energy-applies t run sleep waking) r
 
 -- All is left unchanged: a refused release hands back the very state, a refused step the very state and tally. A refused
 -- start has no state to hand back: it gives one of no tasks, which every release and step refuses with 6. A refused
@@ -72,11 +71,11 @@ pub record Unchanged : Type 0 where
   pub start-gives-no-state : (g : Given) (r : Refusal) → startOf g .answer ≡ Refused r → startOf g .state ≡ noState
   pub no-state-gets-6 : (task demand : ℕ) (t : Tally)
       → (releaseOf noState task demand .answer ≡ Refused Unfit) × (stepOf noState t .answer ≡ ticked.Refused Unfit) × (toldOf Unfit .number ≡ 6)
-  pub energy-zero : (t : Tally) (run sleep : ℕ) (r : Refusal) → energyOf t run sleep .answer ≡ Refused r → energyOf t run sleep .nanojoules ≡ 0
+  pub energy-zero : (t : Tally) (run sleep waking : ℕ) (r : Refusal) → energyOf t run sleep waking .answer ≡ Refused r → energyOf t run sleep waking .nanojoules ≡ 0
   -- A refused call on words, whose low byte is the number, leaves every lent word as it was; but number 5 comes back
   -- with the verdict.
   pub admit-leaves-words : (table words : List ℕ) → 1 ≤ admitOn table words .answer % 256 → (admitOn table words .answer % 256 ≡ 5 → ⊥) → admitOn table words .verdict ≡ words
-  pub start-leaves-words : (table words : List ℕ) → 1 ≤ startOn table words .answer % 256 → startOn table words .state ≡ words
+  pub start-leaves-words : (g : Given) (words : List ℕ) → 1 ≤ startOn g words .answer % 256 → startOn g words .state ≡ words
   pub release-leaves-words : (words : List ℕ) (task demand : ℕ) → 1 ≤ releaseOn words task demand .answer % 256 → releaseOn words task demand .state ≡ words
   pub step-leaves-words : (words tally : List ℕ) → 1 ≤ stepOn words tally .answer % 256 → (stepOn words tally .state ≡ words) × (stepOn words tally .tally ≡ tally)
 
@@ -113,9 +112,9 @@ demand-1 = record {
   all-is-left-unchanged = record {
     release-unchanged = release-refused;
     step-unchanged = step-refused;
-    start-gives-no-state = λ g r e. rw (reading-refused-exactly (g .table) r .1 (laws.start-refused-exactly g r .0 e));
+    start-gives-no-state = laws.start-refused;
     no-state-gets-6 = λ task demand t. let f = no-state-refused task demand t in (f .0, f .1, refl);
-    energy-zero = λ t run sleep r e. energy-refused t run sleep r e .0;
+    energy-zero = λ t run sleep waking r e. energy-refused t run sleep waking r e .0;
     admit-leaves-words = on.admit-leaves;
     start-leaves-words = on.start-leaves;
     release-leaves-words = on.release-leaves;

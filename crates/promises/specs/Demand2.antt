@@ -5,7 +5,7 @@
 -- S is `s .sleep .work`.
 use Prim.Native.Nat.{ℕ, _+_, _*_, _/_, _%_, _≤_, _<_}
 use mathlib.Core.Path.{_≡_, ap}
-use mathlib.Core.Logic.{_↔_}
+use mathlib.Core.Logic.{_↔_, ⊎-elim}
 use mathlib.Core.List.{List}
 use native.Mathlib.Omega.{arith}
 use native.Mathlib.Nat.{div-add-mod'}
@@ -31,15 +31,17 @@ use Rattle.decisions.specs.declared.Answer.the-variants.{Accepted}
 use Rattle.decisions.specs.Fits.{clockEnd, total}
 use Rattle.scheduler.specs.States.{recordIn}
 use Rattle.scheduler.specs.Applies.{Rules-kept}
-use Rattle.scheduler.specs.Starts.{freshState, Given}
+use Rattle.scheduler.specs.Starts.{Given}
 use Rattle.scheduler.specs.Steps.{tickOf, made, stepOf}
 use Rattle.scheduler.specs.MayRun.{May-run, First-to-run}
 use Rattle.decisions.specs.Energies.{energyOf}
-use Rattle.histories.specs.History.{Own, Call, after, begun, history, leftIn}
+use Rattle.histories.specs.History.{Own, Call, history, leftIn}
 use Rattle.scheduler.proofs.StepLaws.{step-made}
 use Rattle.scheduler.proofs.MayRunLaws as words
 use Rattle.scheduler.proofs.AnswerLaws.{energy-reads}
-use Rattle.histories.proofs.HistoryLaws.{history-kept, history-counted, accounts}
+use Rattle.scheduler.proofs.GivenLaws.{started-reads}
+use Rattle.histories.proofs.HistoryLaws.{Counted, history-kept, history-counted, accounts}
+use Rattle.histories.proofs.StillLaws.{started-or-still, still-each, still-counted}
 
 -- The tick of a state with a tally is the defined one. The answer is a slot tick exactly where t mod H is below S; a run
 -- of task k exactly where it is not below S and k is the lowest-numbered working task whose job may run; a tail tick
@@ -64,19 +66,18 @@ pub record Verdict-is (bytes : List ℕ) (n : ℕ) : Type 0 where
 -- the figures theirs, the rounds the replacements done, and what no task fills is zero (`Judged`, `Rows` and `Row`).
 pub record Reported : Type 0 where
   pub figures-are-the-defined-ones : (bytes : List ℕ) (n : ℕ) → Sound-table bytes n → Judged (rulesOf bytes) n (admitOf bytes)
-  -- Over every list of calls from the start of a sound table that lends its own tally to each step, zeros first and
-  -- untouched in between, run, slot and tail ticks sum to the clock, and run ticks plus all work left equals the sum of
-  -- the accepted demands;
-  pub ticks-sum-to-the-clock : (g : Given) (n : ℕ) (calls : List Call) → Sound-table (g .table) n → Each Own calls
-      → total (history g calls .tally) ≡ history g calls .state .clock
-  pub run-and-left-are-demanded : (g : Given) (n : ℕ) (calls : List Call) → Sound-table (g .table) n → Each Own calls
+  -- Over every list of calls from a start that lends its own tally to each step, zeros first and untouched in between,
+  -- run, slot, tail and waking ticks sum to the clock, and run ticks plus all work left equals the sum of the accepted
+  -- demands;
+  pub ticks-sum-to-the-clock : (g : Given) (calls : List Call) → Each Own calls → total (history g calls .tally) ≡ history g calls .state .clock
+  pub run-and-left-are-demanded : (g : Given) (calls : List Call) → Each Own calls
       → history g calls .tally .run + sumTo places (leftIn (history g calls .state)) ≡ sumTo places (history g calls .demands)
   -- and whatever tallies are lent, each task's run ticks plus its work left equals the sum of its accepted demands.
-  pub task-by-task : (g : Given) (n : ℕ) (calls : List Call) (i : ℕ) → Sound-table (g .table) n → i < places
-      → history g calls .runs i + leftIn (history g calls .state) i ≡ history g calls .demands i
-  -- An accepted energy reading is run ticks times the run power plus slot and tail ticks times the sleep power.
-  pub energy-is : (t : Tally) (run sleep : ℕ) → energyOf t run sleep .answer ≡ Accepted
-      → energyOf t run sleep .nanojoules ≡ t .run * run + t .slot * sleep + t .tail * sleep
+  pub task-by-task : (g : Given) (calls : List Call) (i : ℕ) → i < places → history g calls .runs i + leftIn (history g calls .state) i ≡ history g calls .demands i
+  -- An accepted energy reading is run ticks times the run power plus slot and tail ticks times the sleep power plus
+  -- waking ticks times the waking power.
+  pub energy-is : (t : Tally) (run sleep waking : ℕ) → energyOf t run sleep waking .answer ≡ Accepted
+      → energyOf t run sleep waking .nanojoules ≡ t .run * run + t .slot * sleep + t .tail * sleep + t .waking * waking
 
 pub record Demand-2 : Type 0 where
   -- "Each tick runs, sleeps or waits exactly as Energy-Saving Rate-Harmonized Scheduling (RTSS 2008) says, in whole ticks
@@ -100,6 +101,13 @@ least h a p = (
   λ m whole l. omega (arith, div-add-mod' m h, ready-by h a (m / h) p (omega (arith, div-add-mod' m h))),
 )
 
+-- Every history keeps the accounts, task by task, and the counts where it lends no other tally.
+each : (g : Given) (calls : List Call) (i : ℕ) → i < places → history g calls .runs i + leftIn (history g calls .state) i ≡ history g calls .demands i
+each g calls = ⊎-elim (λ ok. let r = started-reads g ok in rw (r .1) (history-kept g (r .0) calls (r .1) .each)) (still-each (history g calls)) (started-or-still g calls)
+
+counted : (g : Given) (calls : List Call) → Each Own calls → Counted (history g calls)
+counted g calls own = ⊎-elim (λ ok. let r = started-reads g ok in rw (r .1) (history-counted g (r .0) calls (r .1) own)) (still-counted (history g calls)) (started-or-still g calls)
+
 -- DEMAND 2 HOLDS.
 pub demand-2 : Demand-2
 unfolding recordIn
@@ -117,11 +125,9 @@ demand-2 = record {
   };
   what-is-reported-is-defined = record {
     figures-are-the-defined-ones = λ bytes n S. laws.admit-says bytes n (sound-read bytes n S);
-    ticks-sum-to-the-clock = λ g n calls S own. let e = sound-read (g .table) n S in rw e (history-counted g n calls e own .counted);
-    run-and-left-are-demanded = λ g n calls S own.
-        let e = sound-read (g .table) n S in
-        rw e (accounts (after (begun (freshState g n)) calls) (history-kept g n calls e) (history-counted g n calls e own));
-    task-by-task = λ g n calls i S l. let e = sound-read (g .table) n S in rw e (history-kept g n calls e .each i l);
+    ticks-sum-to-the-clock = λ g calls own. counted g calls own .counted;
+    run-and-left-are-demanded = λ g calls own. accounts (history g calls) (each g calls) (counted g calls own);
+    task-by-task = each;
     energy-is = energy-reads;
   };
 }

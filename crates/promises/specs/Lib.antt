@@ -11,11 +11,15 @@ pub mod Demand2
 -- Demand 3, on one page, says that every job finishes, that each figure is reached, that who fails is late, and that a
 -- tail tick brings rest.
 pub mod Demand3
+-- A waking length splits the count of slot ticks, and changes nothing else.
+pub mod Waking
 -- A state is saved in words and restored.
 pub mod Saved
 -- Numbers, answers and the order of words are held against literal numbers.
 pub mod Pinned
 -- Every theorem that has hypotheses is used with all of them met.
 pub mod Uses
+-- What is said of waking is used on the house table, and case J is computed.
+pub mod HouseWaking
 -- That every job finishes is used on the house table's worst pattern.
 pub mod HouseJobs

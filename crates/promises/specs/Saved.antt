@@ -9,14 +9,14 @@ use native.Mathlib.Omega.{arith}
 use lib.ListN.{length}
 use borrow.Author.Tests.{eq-eqb, eqb-true}
 use Rattle.base.proofs.FoldLaws.{folded-append}
-use Rattle.table.specs.declared.Reading.the-variants as read
-use Rattle.table.specs.Sound.{places, readOf}
+use Rattle.table.specs.Sound.{places}
 use Rattle.scheduler.specs.declared.State.{State}
 use Rattle.decisions.specs.declared.Tally.{Tally}
 use Rattle.decisions.specs.Fits.{noTicks}
-use Rattle.scheduler.specs.Starts.{Given, startOf, freshState}
+use Rattle.scheduler.specs.Starts.{Given, startOf, freshState, Is-started}
 use Rattle.scheduler.specs.Releases.{releaseOf}
 use Rattle.scheduler.specs.Steps.{stepOf}
+use Rattle.scheduler.proofs.GivenLaws.{started-reads}
 use Rattle.histories.specs.History.{Call, Past, next, after, begun, history}
 use Rattle.histories.proofs.HistoryLaws.{kept-begun, history-kept}
 use Rattle.node.specs.Layout.{stateSize, tallySize, stateWords, tallyWords, stateIn, tallyIn, encoded, tallyEncoded}
@@ -50,29 +50,32 @@ step-on-words words tally e c = rw (e, c)
 
 -- THE WORDS FOLLOW THE HISTORY: over every list of calls from an accepted start, the buffers hold the words of the
 -- history's state and tally.
-pub words-follow : (g : Given) (n : ℕ) (calls : List Call) → readOf (g .table) ≡ read.Sound n
+pub words-follow : (g : Given) (calls : List Call) → Is-started g
     → calledAll (saved (begun (startOf g .state))) calls ≡ saved (history g calls)
-words-follow g n calls e = rw e (saving.calls-saved (begun (freshState g n)) calls (kept-begun g n e))
+words-follow g calls ok =
+    let r = started-reads g ok in
+    rw (r .1) (saving.calls-saved (begun (freshState g (r .0))) calls (kept-begun g (r .0) (r .1)))
 
 -- A START on a buffer of a state's length writes the words of the fresh state, whatever stood there.
-pub start-on-words : (g : Given) (n : ℕ) (words : List ℕ) → readOf (g .table) ≡ read.Sound n → length words ≡ stateSize
-    → startOn (g .table) words ≡ record { answer = 0; state = stateWords (freshState g n) }
-start-on-words g n words e long = rw (e, eq-eqb (length words) stateSize long)
+pub start-on-words : (g : Given) (words : List ℕ) → Is-started g → length words ≡ stateSize
+    → startOn g words ≡ record { answer = 0; state = stateWords (startOf g .state) }
+start-on-words g words ok long = rw (ok, eq-eqb (length words) stateSize long)
 
 -- So the buffers that a start and a tally of zeros leave hold the history's words after every list of calls.
-pub words-follow-a-start : (g : Given) (n : ℕ) (words : List ℕ) (calls : List Call) → readOf (g .table) ≡ read.Sound n → length words ≡ stateSize
-    → calledAll (record { state = startOn (g .table) words .state; tally = tallyWords noTicks }) calls ≡ saved (history g calls)
-words-follow-a-start g n words calls e long =
-    ap (λ (m : StateLeft). calledAll (record { state = m .state; tally = tallyWords noTicks }) calls) (start-on-words g n words e long)
-    ∙ rw e (saving.calls-saved (begun (freshState g n)) calls (kept-begun g n e))
+pub words-follow-a-start : (g : Given) (words : List ℕ) (calls : List Call) → Is-started g → length words ≡ stateSize
+    → calledAll (record { state = startOn g words .state; tally = tallyWords noTicks }) calls ≡ saved (history g calls)
+words-follow-a-start g words calls ok long =
+    ap (λ (m : StateLeft). calledAll (record { state = m .state; tally = tallyWords noTicks }) calls) (start-on-words g words ok long)
+    ∙ words-follow g calls ok
 
 -- A STOP CHANGES NOTHING: a history cut in two by a save and a restore equals the uncut one.
-pub stop-changes-nothing : (g : Given) (n : ℕ) (before later : List Call) → readOf (g .table) ≡ read.Sound n
+pub stop-changes-nothing : (g : Given) (before later : List Call) → Is-started g
     → after (restored (history g before)) later ≡ history g (before ++ later)
-stop-changes-nothing g n before later e =
-    rw e
-    (ap (λ (p : Past). after p later) (saving.restored-same (after (begun (freshState g n)) before) (history-kept g n before e .sized))
-    ∙ sym (folded-append next (begun (freshState g n)) before later))
+stop-changes-nothing g before later ok =
+    let r = started-reads g ok in
+    rw (r .1)
+    (ap (λ (p : Past). after p later) (saving.restored-same (after (begun (freshState g (r .0))) before) (history-kept g (r .0) before (r .1) .sized))
+    ∙ sym (folded-append next (begun (freshState g (r .0))) before later))
 
 -- AN ANSWER is read back by its parts: the low byte, the byte above it, and the rest.
 pub answer-reads-back : (number a b : ℕ) → number < 256 → a < 256 → (packed number a b % 256 ≡ number) × (packed number a b / 256 % 256 ≡ a) × (packed number a b / 65536 ≡ b)

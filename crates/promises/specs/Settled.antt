@@ -100,6 +100,9 @@ step-on κs a = settled (λ x v p. (p, refl))
 pub energy : Settles decisions.energy.ended decisions.energy.Reads.Asked decisions.energy.Reads.Learnt
 energy κs a = settled (λ x v p. (p, refl))
 
+waking-fits : Settles decisions.waking_fits.ended decisions.waking_fits.Reads.Asked decisions.waking_fits.Reads.Learnt
+waking-fits κs a = settled (λ x v p. (p, refl))
+
 head-fits : Settles decisions.head_fits.ended decisions.head_fits.Reads.Asked decisions.head_fits.Reads.Learnt
 head-fits κs a = settled (λ x v p. (p, refl))
 
@@ -142,7 +145,7 @@ pub node-admit : Settles node.node_admit.ended node.node_admit.Reads.Asked node.
 node-admit κs a = settled (λ x v p. (p .0, λ i. (tt, (p .1 i, tt))))
 
 pub node-start : Settles node.node_start.ended node.node_start.Reads.Asked node.node_start.Reads.Learnt
-node-start κs a = settled (λ x v p. (p .0, λ i. (tt, (p .1 i, tt))))
+node-start κs a = settled (λ x v p. (p .0, λ i. (tt, (tt, (p .1 i, tt)))))
 
 pub node-release : Settles node.node_release.ended node.node_release.Reads.Asked node.node_release.Reads.Learnt
 node-release κs a = settled (λ x v p. (p .0, λ i. (p .1 i, (tt, (tt, tt)))))

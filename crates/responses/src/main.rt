@@ -64,7 +64,7 @@ fn show(name: &[u8], table: &[u8]) {
     let answer = verdict.answer;
     let figures = verdict.figures;
     let count = followers(answer);
-    let begun = start(table);
+    let begun = start(table, 0);
     let state = begun.state;
     let most = largest(state, count);
     let mut i: u32 = 0;
@@ -109,6 +109,7 @@ fn largest(s: State, count: u32) -> [u32; 16] {
         run: 0,
         slot: 0,
         tail: 0,
+        waking: 0,
     };
     let mut t: u32 = 0;
     while t < 2000 {

@@ -11,17 +11,16 @@ use Rattle.base.proofs.Split.{by-lt, by-eq}
 use Rattle.base.proofs.ChoiceLaws.{both}
 use Rattle.table.specs.declared.Refusal.{Refusal}
 use Rattle.table.specs.declared.Refusal.the-variants as refusal
-use Rattle.table.specs.declared.Reading.{Reading}
 use Rattle.table.specs.declared.Reading.the-variants as read
 use Rattle.table.specs.Refusals.{startGives}
-use Rattle.table.specs.Sound.{readOf}
 use Rattle.table.specs.Times.{releaseTime}
-use Rattle.table.specs.Rules.{Sound-table}
-use Rattle.table.specs.Applies.{Lowest, Table-applies}
+use Rattle.table.specs.Bytes.{recordAt}
+use Rattle.table.specs.Applies.{Lowest}
 use Rattle.table.proofs.TimesLaws.{time-says, says-time}
-use Rattle.table.proofs.SoundLaws.{read-sound, sound-read, reading-gives}
-use Rattle.table.proofs.LowestLaws.{not-both, fails, holds, number, Chain, first, more, when, unless, past, one-lowest}
-use Rattle.table.proofs.ReadingLaws.{reading-refused-exactly}
+use Rattle.table.specs.Rules.{Sound-table}
+use Rattle.table.proofs.SoundLaws.{refused-not-sound, read-sound, sound-read, reading-gives}
+use Rattle.table.proofs.LowestLaws.{not-both, fails, holds, number, lowest-of-first, Chain, first, more, when, unless, past, one-lowest}
+use Rattle.table.proofs.ReadingLaws.{table-numbers, reading-refused-exactly, sound-none-applies}
 use Rattle.decisions.specs.declared.Job.{Job}
 use Rattle.decisions.specs.declared.Job.the-variants.{Resting, Working}
 use Rattle.decisions.specs.declared.Last.{Last}
@@ -36,16 +35,17 @@ use Rattle.decisions.specs.declared.Answer.the-variants.{Accepted, Refused}
 use Rattle.decisions.specs.Fits.{clockEnd, total, tallyFits}
 use Rattle.scheduler.specs.States.{headOf, entryIn, stateFits}
 use Rattle.scheduler.specs.Lawful.{Lawful-state}
-use Rattle.scheduler.specs.Starts.{Given, startedFrom, startOf}
+use Rattle.scheduler.specs.Starts.{Given, noState, startOf}
 use Rattle.decisions.specs.Asks.{working, early, askSpacing, askTime, askDemand, askTask, mayRelease, mayStep}
 use Rattle.scheduler.specs.Releases.{releaseAnswer, releasedFrom, releaseOf}
 use Rattle.scheduler.specs.Steps.{tickOf, stepFrom, stepOf}
 use Rattle.decisions.specs.Energies.{powerMost, energyIn, energyOf}
-use Rattle.scheduler.specs.Applies.{Release-applies, Releasable, Rules-kept, Step-applies, Energy-applies}
+use Rattle.scheduler.specs.Applies.{Start-applies, Startable, Release-applies, Releasable, Rules-kept, Step-applies, Energy-applies}
 use Rattle.scheduler.specs.Fresh.{Fresh}
 use Rattle.scheduler.proofs.StateLaws.{fits-says, says-fits}
 use Rattle.scheduler.proofs.ReleaseLaws.{accepted-says, says-accepted, refused-not}
 use Rattle.scheduler.proofs.StepLaws.{Step-is, moves, stays, step-is, step-made}
+use Rattle.scheduler.proofs.GivenLaws.{Start-is, unsound, long, starts, start-is, given-startable, startable-given, started-reads}
 use Rattle.scheduler.proofs.StartLaws.{fresh-record, fresh-rests, fresh-lawful}
 
 -- From 6 on a number belongs to one refusal, which `due` gives.
@@ -141,6 +141,7 @@ release-known s task demand refusal.OffBoundary a = (omega arith, omega arith, r
 release-known s task demand refusal.Working a = (omega arith, omega arith, refl)
 release-known s task demand refusal.Early a = (omega arith, omega arith, refl)
 release-known s task demand refusal.Power a = absurd a
+release-known s task demand refusal.LongWaking a = absurd a
 
 abbrev release-chain : (s : State) (task demand : ℕ) → Chain (Release-applies s task demand) Answer
 release-chain s task demand = chain (Release-applies s task demand) 13 (release-known s task demand)
@@ -230,6 +231,7 @@ step-known s t refusal.OffBoundary a = absurd a
 step-known s t refusal.Working a = absurd a
 step-known s t refusal.Early a = absurd a
 step-known s t refusal.Power a = absurd a
+step-known s t refusal.LongWaking a = absurd a
 
 abbrev step-chain : (s : State) (t : Tally) → Chain (Step-applies s t) Answer
 step-chain s t = chain (Step-applies s t) 8 (step-known s t)
@@ -294,106 +296,168 @@ step-ticks-exactly s t tick = (to (step-is s t), λ k. ap {A = Moved} (λ m. m .
         let w : ticked.Refused r ≡ ticked.Tick tick = sym (ap {A = Moved} (λ m. m .answer) q) ∙ e in
         let z : _≡_ {A = ℕ} 0 1 = cc in absurd (let y : ⊥ = omega arith in y)
 
--- A START IS ACCEPTED exactly where the table is sound.
-pub start-accepted-exactly : (g : Given) → (startOf g .answer ≡ Accepted) ↔ ((n : ℕ) × Sound-table (g .table) n)
-start-accepted-exactly g = (to (readOf (g .table)) refl, λ S. rw (sound-read (g .table) (S .0) (S .1)))
-  where
-    to : (x : Reading) → readOf (g .table) ≡ x → startedFrom g x .answer ≡ Accepted → (n : ℕ) × Sound-table (g .table) n
-    to (read.Sound n) q e = (n, read-sound (g .table) n q)
-    to (read.Refused r) q e = absurd (refused-not r e)
+-- A START IS ACCEPTED exactly where the table is sound and V is at most S.
+pub start-accepted-exactly : (g : Given) → (startOf g .answer ≡ Accepted) ↔ ((n : ℕ) × Startable g n)
+start-accepted-exactly g = (
+  λ e. let r = started-reads g e in (r .0, given-startable g (r .0) (r .1)),
+  λ S. rw (startable-given g (S .0) (S .1)),
+)
 
--- A start is refused exactly with the lowest of 1 to 4 that applies.
-pub start-refused-exactly : (g : Given) (r : Refusal) → (startOf g .answer ≡ Refused r) ↔ Lowest (Table-applies (g .table)) r
-start-refused-exactly g r = (to (readOf (g .table)) refl, λ L. rw (reading-refused-exactly (g .table) r .1 L))
+-- A start is refused exactly with the lowest of 1 to 4 and 14 that applies.
+pub start-refused-exactly : (g : Given) (r : Refusal) → (startOf g .answer ≡ Refused r) ↔ Lowest (Start-applies g) r
+start-refused-exactly g r = (to (start-is g), λ L. from (start-is g) L (L .applies))
   where
-    to : (x : Reading) → readOf (g .table) ≡ x → startedFrom g x .answer ≡ Refused r → Lowest (Table-applies (g .table)) r
-    to (read.Sound n) q e = let z : _≡_ {A = ℕ} 0 1 = cc in absurd (let y : ⊥ = omega arith in y)
-    to (read.Refused f) q e = let same : f ≡ r = cc in reading-refused-exactly (g .table) r .0 (q ∙ ap read.Refused same)
+    to : Start-is g → startOf g .answer ≡ Refused r → Lowest (Start-applies g) r
+    to (unsound f q w) e =
+        let same : f ≡ r = cc (rw w at e) in
+        let L = reading-refused-exactly (g .table) r .0 (q ∙ ap read.Refused same) in
+        record {
+          applies = inl (L .applies);
+          none-lower = λ p lower a. ⊎-elim (L .none-lower p lower) (λ u. omega (arith, ap number (u .0), table-numbers (g .table) r (L .applies))) a;
+        }
+    to (long n q l w) e =
+        let same : refusal.LongWaking ≡ r = cc (rw w at e) in
+        subst (Lowest (Start-applies g)) same (record {
+          applies = inr (refl, l);
+          none-lower = λ p lower a. ⊎-elim (sound-none-applies (g .table) n q p) (λ u. omega (arith, ap number (u .0))) a;
+        })
+    to (starts n q l w) e = absurd (refused-not r (sym (rw w at e)))
 
--- A start is refused only as the reading of its table is.
+    from : Start-is g → Lowest (Start-applies g) r → Start-applies g r → startOf g .answer ≡ Refused r
+    from (unsound f q w) L (inl a) =
+        let same = reading-refused-exactly (g .table) r .1 (lowest-of-first L a) in
+        let is : f ≡ r = cc in
+        rw w (ap Refused is)
+    from (unsound f q w) L (inr u) =
+        let F = reading-refused-exactly (g .table) f .0 q in
+        absurd (L .none-lower f (omega (arith, ap number (u .0), table-numbers (g .table) f (F .applies))) (inl (F .applies)))
+    from (long n q l w) L (inl a) = absurd (sound-none-applies (g .table) n q r a)
+    from (long n q l w) L (inr u) = rw w (ap Refused (sym (u .0)))
+    from (starts n q l w) L (inl a) = absurd (sound-none-applies (g .table) n q r a)
+    from (starts n q l w) L (inr u) = absurd (let z : ⊥ = omega (arith, u .1) in z)
+
+-- 14 IS GIVEN exactly where the table is sound and V is above S.
+pub fourteen-exactly : (g : Given) → (startOf g .answer ≡ Refused refusal.LongWaking) ↔ (((n : ℕ) × Sound-table (g .table) n) × (recordAt (g .table) 0 .work < g .waking))
+fourteen-exactly g = (to (start-is g), from (start-is g))
+  where
+    to : Start-is g → startOf g .answer ≡ Refused refusal.LongWaking → ((n : ℕ) × Sound-table (g .table) n) × (recordAt (g .table) 0 .work < g .waking)
+    to (unsound f q w) e =
+        let same : f ≡ refusal.LongWaking = cc (rw w at e) in
+        let none : false ≡ true = rw same at (reading-gives (g .table) f q) in
+        absurd (not-both false none refl)
+    to (long n q l w) e = ((n, read-sound (g .table) n q), l)
+    to (starts n q l w) e = absurd (refused-not refusal.LongWaking (sym (rw w at e)))
+
+    from : Start-is g → ((n : ℕ) × Sound-table (g .table) n) × (recordAt (g .table) 0 .work < g .waking) → startOf g .answer ≡ Refused refusal.LongWaking
+    from (unsound f q w) F = absurd (refused-not-sound f (F .0 .0) (sym q ∙ sound-read (g .table) (F .0 .0) (F .0 .1)))
+    from (long n q l w) F = rw w
+    from (starts n q l w) F = absurd (let z : ⊥ = omega (arith, F .1) in z)
+
+-- A REFUSED START hands back the state of no tasks.
+pub start-refused : (g : Given) (r : Refusal) → startOf g .answer ≡ Refused r → startOf g .state ≡ noState
+start-refused g r e = go (start-is g)
+  where
+    go : Start-is g → startOf g .state ≡ noState
+    go (unsound f q w) = rw w
+    go (long n q l w) = rw w
+    go (starts n q l w) = absurd (refused-not r (sym (rw w at e)))
+
+-- A start gives 1 to 4 and 14 and no other number.
 pub start-gives-only : (g : Given) (r : Refusal) → startOf g .answer ≡ Refused r → startGives r ≡ true
-start-gives-only g r = to (readOf (g .table)) refl
+start-gives-only g r e = ⊎-elim
+    (λ a. rw (reading-gives (g .table) r (reading-refused-exactly (g .table) r .1 (lowest-of-first L a))))
+    (λ u. rw (u .0))
+    (L .applies)
   where
-    to : (x : Reading) → readOf (g .table) ≡ x → startedFrom g x .answer ≡ Refused r → startGives r ≡ true
-    to (read.Sound n) q e = let z : _≡_ {A = ℕ} 0 1 = cc in absurd (let y : ⊥ = omega arith in y)
-    to (read.Refused f) q e = let same : f ≡ r = cc in reading-gives (g .table) r (q ∙ ap read.Refused same)
+    L : Lowest (Start-applies g) r
+    L = start-refused-exactly g r .0 e
 
--- AN ACCEPTED START HANDS BACK THE TABLE, at clock 0, every task resting and never released, spare places after them.
-pub start-hands-back : (g : Given) (n : ℕ) → Sound-table (g .table) n → Fresh (g .table) n (startOf g .state)
+-- AN ACCEPTED START HANDS BACK THE TABLE and V, at clock 0, every task resting and never released, spare places after
+-- them.
+pub start-hands-back : (g : Given) (n : ℕ) → Startable g n → Fresh g n (startOf g .state)
 start-hands-back g n S =
-    let e = sound-read (g .table) n S in
+    let e = startable-given g n S in
     let L = fresh-lawful g n e in
     rw e (record {
       tasks = refl;
-      records = λ k l. fresh-record g n k (S .few) l;
+      records = λ k l. fresh-record g n k (S .sound .few) l;
+      waking-is = refl;
       clock-zero = refl;
-      resting = λ i l. fresh-rests g n i (S .few) (omega (arith, S .few)) .0;
-      never = λ i l. fresh-rests g n i (S .few) (omega (arith, S .few)) .1;
+      resting = λ i l. fresh-rests g n i (S .sound .few) (omega (arith, S .sound .few)) .0;
+      never = λ i l. fresh-rests g n i (S .sound .few) (omega (arith, S .sound .few)) .1;
       spare = L .1 .spare;
       room = L .0;
     })
 
--- An energy reading goes one of three ways: refused with 6, refused with 13, or accepted.
-data Energy-is (t : Tally) (run sleep : ℕ) : Type 0 where
-  too-long : clockEnd < total t → energyOf t run sleep .answer ≡ Refused refusal.Unfit → Energy-is t run sleep
-  too-strong : total t ≤ clockEnd → (powerMost < run) ⊎ (powerMost < sleep) → energyOf t run sleep .answer ≡ Refused refusal.Power → Energy-is t run sleep
-  reads : total t ≤ clockEnd → run ≤ powerMost → sleep ≤ powerMost → energyOf t run sleep .answer ≡ Accepted → Energy-is t run sleep
+-- No power is too strong where none is above its largest.
+weak-powers : (run sleep waking : ℕ) → run ≤ powerMost → sleep ≤ powerMost → waking ≤ powerMost → (powerMost < run) ⊎ (powerMost < sleep) ⊎ (powerMost < waking) → ⊥
+weak-powers run sleep waking r s w (inl l) = omega arith
+weak-powers run sleep waking r s w (inr (inl l)) = omega arith
+weak-powers run sleep waking r s w (inr (inr l)) = omega arith
 
-energy-is : (t : Tally) (run sleep : ℕ) → Energy-is t run sleep
-energy-is t run sleep = by-lt clockEnd (total t) (Energy-is t run sleep)
+-- An energy reading goes one of three ways: refused with 6, refused with 13, or accepted.
+data Energy-is (t : Tally) (run sleep waking : ℕ) : Type 0 where
+  too-long : clockEnd < total t → energyOf t run sleep waking .answer ≡ Refused refusal.Unfit → Energy-is t run sleep waking
+  too-strong : total t ≤ clockEnd → (powerMost < run) ⊎ (powerMost < sleep) ⊎ (powerMost < waking) → energyOf t run sleep waking .answer ≡ Refused refusal.Power → Energy-is t run sleep waking
+  reads : total t ≤ clockEnd → run ≤ powerMost → sleep ≤ powerMost → waking ≤ powerMost → energyOf t run sleep waking .answer ≡ Accepted → Energy-is t run sleep waking
+
+energy-is : (t : Tally) (run sleep waking : ℕ) → Energy-is t run sleep waking
+energy-is t run sleep waking = by-lt clockEnd (total t) (Energy-is t run sleep waking)
     (λ l. too-long l (rw (lt-ltb _ _ l)))
-    (λ few. by-lt powerMost run (Energy-is t run sleep)
+    (λ few. by-lt powerMost run (Energy-is t run sleep waking)
     (λ l. too-strong few (inl l) (rw (le-ltb _ _ few, lt-ltb _ _ l)))
-    (λ low. by-lt powerMost sleep (Energy-is t run sleep)
-    (λ l. too-strong few (inr l) (rw (le-ltb _ _ few, le-ltb _ _ low, lt-ltb _ _ l)))
-    (λ weak. reads few low weak (rw (le-ltb _ _ few, le-ltb _ _ low, le-ltb _ _ weak)))))
+    (λ low. by-lt powerMost sleep (Energy-is t run sleep waking)
+    (λ l. too-strong few (inr (inl l)) (rw (le-ltb _ _ few, le-ltb _ _ low, lt-ltb _ _ l)))
+    (λ weak. by-lt powerMost waking (Energy-is t run sleep waking)
+    (λ l. too-strong few (inr (inr l)) (rw (le-ltb _ _ few, le-ltb _ _ low, le-ltb _ _ weak, lt-ltb _ _ l)))
+    (λ faint. reads few low weak faint (rw (le-ltb _ _ few, le-ltb _ _ low, le-ltb _ _ weak, le-ltb _ _ faint))))))
 
 -- AN ENERGY READING IS REFUSED exactly with the lowest number that applies.
-pub energy-refused-exactly : (t : Tally) (run sleep : ℕ) (r : Refusal) → (energyOf t run sleep .answer ≡ Refused r) ↔ Lowest (Energy-applies t run sleep) r
-energy-refused-exactly t run sleep r = (to (energy-is t run sleep), λ L. from (energy-is t run sleep) L (L .applies))
+pub energy-refused-exactly : (t : Tally) (run sleep waking : ℕ) (r : Refusal) → (energyOf t run sleep waking .answer ≡ Refused r) ↔ Lowest (Energy-applies t run sleep waking) r
+energy-refused-exactly t run sleep waking r = (to (energy-is t run sleep waking), λ L. from (energy-is t run sleep waking) L (L .applies))
   where
-    to : Energy-is t run sleep → energyOf t run sleep .answer ≡ Refused r → Lowest (Energy-applies t run sleep) r
+    to : Energy-is t run sleep waking → energyOf t run sleep waking .answer ≡ Refused r → Lowest (Energy-applies t run sleep waking) r
     to (too-long l q) e =
         let w : Refused refusal.Unfit ≡ Refused r = sym q ∙ e in
         let same : refusal.Unfit ≡ r = cc in
-        subst (Lowest (Energy-applies t run sleep)) same (record {
+        subst (Lowest (Energy-applies t run sleep waking)) same (record {
           applies = inl (refl, l);
           none-lower = λ p lower a. ⊎-elim (λ u. omega (arith, ap number (u .0))) (λ u. omega (arith, ap number (u .0))) a;
         })
     to (too-strong few p q) e =
         let w : Refused refusal.Power ≡ Refused r = sym q ∙ e in
         let same : refusal.Power ≡ r = cc in
-        subst (Lowest (Energy-applies t run sleep)) same (record {
+        subst (Lowest (Energy-applies t run sleep waking)) same (record {
           applies = inr (refl, p);
           none-lower = λ p lower a. ⊎-elim (λ u. omega (arith, u .1)) (λ u. omega (arith, ap number (u .0))) a;
         })
-    to (reads few r s q) e = let z : _≡_ {A = ℕ} 0 1 = cc in absurd (let y : ⊥ = omega arith in y)
+    to (reads few r s w q) e = let z : _≡_ {A = ℕ} 0 1 = cc in absurd (let y : ⊥ = omega arith in y)
 
-    from : Energy-is t run sleep → Lowest (Energy-applies t run sleep) r → Energy-applies t run sleep r → energyOf t run sleep .answer ≡ Refused r
+    from : Energy-is t run sleep waking → Lowest (Energy-applies t run sleep waking) r → Energy-applies t run sleep waking r → energyOf t run sleep waking .answer ≡ Refused r
     from (too-long l q) L (inl u) = q ∙ ap Refused (sym (u .0))
     from (too-long l q) L (inr u) = absurd (L .none-lower refusal.Unfit (omega (arith, ap number (u .0))) (inl (refl, l)))
     from (too-strong few p q) L (inl u) = absurd (let z : ⊥ = omega (arith, u .1) in z)
     from (too-strong few p q) L (inr u) = q ∙ ap Refused (sym (u .0))
-    from (reads few low weak q) L (inl u) = absurd (let z : ⊥ = omega (arith, u .1) in z)
-    from (reads few low weak q) L (inr u) = ⊎-elim (λ l. absurd (let z : ⊥ = omega arith in z)) (λ l. absurd (let z : ⊥ = omega arith in z)) (u .1)
+    from (reads few low weak faint q) L (inl u) = absurd (let z : ⊥ = omega (arith, u .1) in z)
+    from (reads few low weak faint q) L (inr u) = absurd (weak-powers run sleep waking low weak faint (u .1))
 
 -- AN ENERGY READING IS MADE exactly where neither 6 nor 13 applies.
-pub energy-accepted-exactly : (t : Tally) (run sleep : ℕ)
-    → (energyOf t run sleep .answer ≡ Accepted) ↔ ((total t ≤ clockEnd) × (run ≤ powerMost) × (sleep ≤ powerMost))
-energy-accepted-exactly t run sleep = (to (energy-is t run sleep), from (energy-is t run sleep))
+pub energy-accepted-exactly : (t : Tally) (run sleep waking : ℕ)
+    → (energyOf t run sleep waking .answer ≡ Accepted) ↔ ((total t ≤ clockEnd) × (run ≤ powerMost) × (sleep ≤ powerMost) × (waking ≤ powerMost))
+energy-accepted-exactly t run sleep waking = (to (energy-is t run sleep waking), from (energy-is t run sleep waking))
   where
-    to : Energy-is t run sleep → energyOf t run sleep .answer ≡ Accepted → (total t ≤ clockEnd) × (run ≤ powerMost) × (sleep ≤ powerMost)
+    to : Energy-is t run sleep waking → energyOf t run sleep waking .answer ≡ Accepted → (total t ≤ clockEnd) × (run ≤ powerMost) × (sleep ≤ powerMost) × (waking ≤ powerMost)
     to (too-long l q) e = let z : _≡_ {A = ℕ} 0 1 = cc in absurd (let y : ⊥ = omega arith in y)
     to (too-strong few p q) e = let z : _≡_ {A = ℕ} 0 1 = cc in absurd (let y : ⊥ = omega arith in y)
-    to (reads few r s q) e = (few, r, s)
+    to (reads few r s w q) e = (few, r, s, w)
 
-    from : Energy-is t run sleep → (total t ≤ clockEnd) × (run ≤ powerMost) × (sleep ≤ powerMost) → energyOf t run sleep .answer ≡ Accepted
+    from : Energy-is t run sleep waking → (total t ≤ clockEnd) × (run ≤ powerMost) × (sleep ≤ powerMost) × (waking ≤ powerMost) → energyOf t run sleep waking .answer ≡ Accepted
     from (too-long l q) f = absurd (let z : ⊥ = omega (arith, f .0) in z)
-    from (too-strong few p q) f = ⊎-elim (λ l. absurd (let z : ⊥ = omega (arith, f .1) in z)) (λ l. absurd (let z : ⊥ = omega (arith, f .2) in z)) p
-    from (reads few r s q) f = q
+    from (too-strong few p q) f = absurd (weak-powers run sleep waking (f .1) (f .2) (f .3) p)
+    from (reads few r s w q) f = q
 
 -- An accepted energy reading is the energy of the tally.
-pub energy-reads : (t : Tally) (run sleep : ℕ) → energyOf t run sleep .answer ≡ Accepted → energyOf t run sleep .nanojoules ≡ energyIn t run sleep
-energy-reads t run sleep e =
-    let f = energy-accepted-exactly t run sleep .0 e in
-    rw (le-ltb _ _ (f .0), le-ltb _ _ (f .1), le-ltb _ _ (f .2))
+pub energy-reads : (t : Tally) (run sleep waking : ℕ) → energyOf t run sleep waking .answer ≡ Accepted → energyOf t run sleep waking .nanojoules ≡ energyIn t run sleep waking
+energy-reads t run sleep waking e =
+    let f = energy-accepted-exactly t run sleep waking .0 e in
+    rw (le-ltb _ _ (f .0), le-ltb _ _ (f .1), le-ltb _ _ (f .2), le-ltb _ _ (f .3))

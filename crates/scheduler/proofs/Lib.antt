@@ -10,6 +10,8 @@ pub mod TickLaws
 pub mod MayRunLaws
 -- `StepLaws` proves that a step makes its tick or moves nothing.
 pub mod StepLaws
+-- `GivenLaws` proves when what a start is given reads as sound.
+pub mod GivenLaws
 -- `StartLaws` proves that a fresh state keeps the rules.
 pub mod StartLaws
 -- `RefusalLaws` proves which refusals each call can give.

@@ -27,6 +27,7 @@ Sized s = length (s .entries) ≡ places
 pub record One-place (s s' : State) (j : ℕ) (e : Entry) : Type 0 where
   pub sleep-same : s' .sleep ≡ s .sleep
   pub n-same : s' .n ≡ s .n
+  pub waking-same : s' .waking ≡ s .waking
   pub here : entryIn s' j ≡ e
   pub there : (i : ℕ) → i ≢ j → entryIn s' i ≡ entryIn s i
   pub task-same : e .task ≡ entryIn s j .task
@@ -58,6 +59,7 @@ keeps-lawful s s' j e L K = record {
   set = subst (Sound-set (recordIn s')) (sym (P .n-same)) (set-same (recordIn s) (recordIn s') (s .n) (λ k l. record-stays s s' j e P k) (L .set));
   few = rw (P .n-same) (L .few);
   in-time = K .in-time;
+  waking-fits = rw (P .waking-same, P .sleep-same) (L .waking-fits);
   task = λ i l. by-eq i j (Lawful-task s' i)
       (λ q. rw q here)
       (λ n. other i n (L .task i (rw (P .n-same) at l)));
@@ -84,11 +86,12 @@ keeps-lawful s s' j e L K = record {
     }
 
 -- A state whose entries have one place set differs in that one place.
-pub set-place : (s s' : State) (j : ℕ) (e : Entry) → Sized s → j < places → s' .sleep ≡ s .sleep → s' .n ≡ s .n → s' .entries ≡ set (s .entries) j e
+pub set-place : (s s' : State) (j : ℕ) (e : Entry) → Sized s → j < places → s' .sleep ≡ s .sleep → s' .n ≡ s .n → s' .waking ≡ s .waking → s' .entries ≡ set (s .entries) j e
     → e .task ≡ entryIn s j .task → One-place s s' j e
-set-place s s' j e size l es en ee et = record {
+set-place s s' j e size l es en ew ee et = record {
   sleep-same = es;
   n-same = en;
+  waking-same = ew;
   here = rw ee (getD-set-same (s .entries) j e noEntry (rw size l));
   there = λ i n. rw ee (getD-set-other (s .entries) j i e noEntry n);
   task-same = et;

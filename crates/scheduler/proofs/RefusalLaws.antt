@@ -92,11 +92,11 @@ step-gives s t r e = go (mayStep (stateFits s) t (s .clock)) refl
 abbrev Zero-given : EnergyReading → Refusal → Type 0
 Zero-given x r = x .answer ≡ Refused r → (x .nanojoules ≡ 0) × (energyGives r ≡ true)
 
-pub energy-refused : (t : Tally) (run sleep : ℕ) (r : Refusal) → Zero-given (energyOf t run sleep) r
-energy-refused t run sleep r =
+pub energy-refused : (t : Tally) (run sleep waking : ℕ) (r : Refusal) → Zero-given (energyOf t run sleep waking) r
+energy-refused t run sleep waking r =
     either (λ (x : EnergyReading). Zero-given x r) (ltb clockEnd (total t)) unfit rest
     (λ e. let same : refusal.Unfit ≡ r = cc in (refl, rw (← same)))
-    (either (λ (x : EnergyReading). Zero-given x r) (ltb powerMost run || ltb powerMost sleep) power read-out
+    (either (λ (x : EnergyReading). Zero-given x r) (ltb powerMost run || ltb powerMost sleep || ltb powerMost waking) power read-out
     (λ e. let same : refusal.Power ≡ r = cc in (refl, rw (← same)))
     (λ e. let z : _≡_ {A = ℕ} 0 1 = cc in absurd (let y : ⊥ = omega arith in y)))
   where
@@ -107,7 +107,7 @@ energy-refused t run sleep r =
     power = record { answer = Refused refusal.Power; nanojoules = 0 }
 
     read-out : EnergyReading
-    read-out = record { answer = Accepted; nanojoules = energyIn t run sleep }
+    read-out = record { answer = Accepted; nanojoules = energyIn t run sleep waking }
 
     rest : EnergyReading
-    rest = cond (ltb powerMost run || ltb powerMost sleep) power read-out
+    rest = cond (ltb powerMost run || ltb powerMost sleep || ltb powerMost waking) power read-out

@@ -115,7 +115,7 @@ pub release-place : (s : State) (task demand : ℕ) → Sized s → Free-task s 
     → Keeps s (releasedState s task demand) (task - 1) (releasedEntry s (task - 1) demand)
 release-place s task demand size F = record {
   place = set-place s (releasedState s task demand) (task - 1) (releasedEntry s (task - 1) demand) size
-      (omega (arith, F .from-one, F .to-n, F .lawful-state .few)) refl refl refl refl;
+      (omega (arith, F .from-one, F .to-n, F .lawful-state .few)) refl refl refl refl refl;
   a-task = omega (arith, F .from-one, F .to-n);
   on-time = omega arith;
   in-time = F .lawful-state .in-time;

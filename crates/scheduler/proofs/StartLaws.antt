@@ -10,8 +10,7 @@ use Rattle.base.proofs.Split.{by-lt, by-eq}
 use Rattle.table.specs.declared.Refusal.the-variants as refusal
 use Rattle.table.specs.declared.Reading.the-variants as read
 use Rattle.table.specs.Bytes.{recordAt}
-use Rattle.table.specs.Sound.{places, readOf}
-use Rattle.table.proofs.SoundLaws.{read-sound}
+use Rattle.table.specs.Sound.{places}
 use Rattle.table.proofs.SetLaws.{set-same}
 use Rattle.decisions.specs.declared.Job.the-variants.{Resting}
 use Rattle.decisions.specs.declared.Last.the-variants.{Never}
@@ -22,10 +21,12 @@ use Rattle.decisions.specs.declared.Answer.the-variants.{Refused}
 use Rattle.decisions.specs.Fits.{noEntry}
 use Rattle.scheduler.specs.States.{entryIn, recordIn, stateFits, entriesOf}
 use Rattle.scheduler.specs.Lawful.{Lawful-task, Lawful-state}
-use Rattle.scheduler.specs.Starts.{Given, freshState, noState}
+use Rattle.scheduler.specs.Starts.{Given, readGiven, freshState, noState}
+use Rattle.scheduler.specs.Applies.{Startable}
 use Rattle.scheduler.specs.Releases.{releaseAnswer, releaseOf}
 use Rattle.scheduler.specs.Steps.{stepOf}
 use Rattle.scheduler.proofs.PlaceLaws.{Sized}
+use Rattle.scheduler.proofs.GivenLaws.{given-startable}
 
 -- The state that a refused start hands back keeps no rules: every step and release refuses it with 6.
 pub no-state-refused : (task demand : ℕ) (t : Tally) → (releaseOf noState task demand .answer ≡ Refused refusal.Unfit) × (stepOf noState t .answer ≡ ticked.Refused refusal.Unfit)
@@ -73,20 +74,24 @@ fresh-record g n zero few l = refl
 fresh-record g n (suc i) few l = ap {A = Entry} (λ x. x .task) (entries-at (g .table) n i few (omega arith)) ∙ ap (recordAt (g .table)) (add-one i)
 
 -- A FRESH STATE KEEPS THE RULES.
-pub fresh-lawful : (g : Given) (n : ℕ) → readOf (g .table) ≡ read.Sound n → Sized (freshState g n) × Lawful-state (freshState g n)
+pub fresh-lawful : (g : Given) (n : ℕ) → readGiven g ≡ read.Sound n → Sized (freshState g n) × Lawful-state (freshState g n)
 fresh-lawful g n e = (
   entries-size (g .table) n,
   record {
-    set = set-same (recordAt (g .table)) (recordIn (freshState g n)) n (λ k l. fresh-record g n k few l) (read-sound (g .table) n e .set);
+    set = set-same (recordAt (g .table)) (recordIn (freshState g n)) n (λ k l. fresh-record g n k few l) (S .sound .set);
     few = few;
     in-time = omega arith;
+    waking-fits = S .waking-fits;
     task = task;
     spare = λ i p l. entries-spare (g .table) n i p l;
   },
 )
   where
+    S : Startable g n
+    S = given-startable g n e
+
     few : n ≤ places
-    few = read-sound (g .table) n e .few
+    few = S .sound .few
 
     task : (i : ℕ) → i < n → Lawful-task (freshState g n) i
     task i l =

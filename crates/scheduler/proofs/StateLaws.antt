@@ -22,7 +22,7 @@ use Rattle.decisions.specs.declared.Last.the-variants.{Never, At}
 use Rattle.decisions.specs.declared.Entry.{Entry}
 use Rattle.decisions.specs.declared.Head.{Head}
 use Rattle.scheduler.specs.declared.State.{State}
-use Rattle.decisions.specs.Fits.{clockEnd, noEntry, zeroed, lastFits, lastIs, jobFits, taskFits, restsNever, spareFits, placeFits, headFits}
+use Rattle.decisions.specs.Fits.{clockEnd, noEntry, zeroed, lastFits, lastIs, jobFits, taskFits, restsNever, spareFits, placeFits, wakingFits, headFits}
 use Rattle.scheduler.specs.States.{headOf, entryIn, recordIn, periodBefore, placesFit, stateFits}
 use Rattle.scheduler.specs.Lawful.{Lawful-task, Lawful-state}
 
@@ -134,6 +134,7 @@ fits-says s t =
       set = record { some = some; lawful-at = lawful-at; ordered = ordered; room = ltb-true _ _ (r .0); whole = eqb-true _ _ (r .1) };
       few = few;
       in-time = leb-true _ _ (c .1);
+      waking-fits = leb-true _ _ (w .1);
       task = λ i l. says i l .lawful-task;
       spare = λ i g l. spare-says (entryIn s i) (rw (le-ltb i (s .n) g) at (all i l));
     }
@@ -144,8 +145,11 @@ fits-says s t =
     f : (headFits h (recordIn s 1) ≡ true) × (placesFit h (s .entries) ≡ true)
     f = both (headFits h (recordIn s 1)) (placesFit h (s .entries)) t
 
+    w : (leb 1 (s .n) && leb (s .n) places && leb (s .clock) clockEnd && recordFits (s .sleep) && sleepFits (s .sleep) (recordIn s 1) ≡ true) × (wakingFits (s .waking) (s .sleep) ≡ true)
+    w = both (leb 1 (s .n) && leb (s .n) places && leb (s .clock) clockEnd && recordFits (s .sleep) && sleepFits (s .sleep) (recordIn s 1)) (wakingFits (s .waking) (s .sleep)) (f .0)
+
     e : (leb 1 (s .n) && leb (s .n) places && leb (s .clock) clockEnd && recordFits (s .sleep) ≡ true) × (sleepFits (s .sleep) (recordIn s 1) ≡ true)
-    e = both (leb 1 (s .n) && leb (s .n) places && leb (s .clock) clockEnd && recordFits (s .sleep)) (sleepFits (s .sleep) (recordIn s 1)) (f .0)
+    e = both (leb 1 (s .n) && leb (s .n) places && leb (s .clock) clockEnd && recordFits (s .sleep)) (sleepFits (s .sleep) (recordIn s 1)) (w .0)
 
     d : (leb 1 (s .n) && leb (s .n) places && leb (s .clock) clockEnd ≡ true) × (recordFits (s .sleep) ≡ true)
     d = both (leb 1 (s .n) && leb (s .n) places && leb (s .clock) clockEnd) (recordFits (s .sleep)) (e .0)
@@ -191,6 +195,7 @@ says-fits s L =
       says-record (s .sleep) (L .set .lawful-at 0 (omega arith)),
       lt-ltb _ _ (L .set .room),
       eq-eqb _ _ (L .set .whole),
+      le-leb _ _ (L .waking-fits),
     )
     (says-every (λ i. placeFits (headOf s) i (periodBefore (s .entries) i) (entryIn s i)) places (λ i l.
     by-lt i (s .n) (placeFits (headOf s) i (periodBefore (s .entries) i) (entryIn s i) ≡ true)

@@ -84,7 +84,7 @@ run-is-task s k e = by-tick (tick-is s)
 -- A tick that runs no task changes no place.
 pub still-place : (s : State) → Sized s → Lawful-state s → s .clock < clockEnd → Keeps s (aged s) 0 (entryIn s 0)
 still-place s size L l = record {
-  place = record { sleep-same = refl; n-same = refl; here = refl; there = λ i n. refl; task-same = refl; sized = size };
+  place = record { sleep-same = refl; n-same = refl; waking-same = refl; here = refl; there = λ i n. refl; task-same = refl; sized = size };
   a-task = L .set .some;
   on-time = omega arith;
   in-time = omega arith;
@@ -95,7 +95,7 @@ still-place s size L l = record {
 -- A run changes the place of the task that runs.
 pub run-place : (s : State) (j : ℕ) → Sized s → Lawful-state s → s .clock < clockEnd → j < s .n → Keeps s (afterRun s j) j (workedOf (entryIn s j))
 run-place s j size L l lj = record {
-  place = set-place s (afterRun s j) j (workedOf (entryIn s j)) size (omega (arith, L .few)) refl refl refl refl;
+  place = set-place s (afterRun s j) j (workedOf (entryIn s j)) size (omega (arith, L .few)) refl refl refl refl refl;
   a-task = lj;
   on-time = omega arith;
   in-time = omega arith;

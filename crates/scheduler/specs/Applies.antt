@@ -1,10 +1,13 @@
--- RULES 3.1 is stated here as facts: when each refusal applies to a release, to a step and to an energy reading, in the
--- words of the column "applies when". A start's refusals are those of its table (table/specs/Applies.antt).
+-- RULES 3.1 is stated here as facts: when each refusal applies to a start, to a release, to a step and to an energy
+-- reading, in the words of the column "applies when".
 use Prim.Native.Nat.{ℕ, _+_, _-_, _%_, _≤_, _<_}
 use mathlib.Core.Path.{_≡_}
 use mathlib.Core.Logic.{_≢_, _⊎_}
 use Rattle.table.specs.declared.Refusal.{Refusal}
 use Rattle.table.specs.declared.Refusal.the-variants as refusal
+use Rattle.table.specs.Bytes.{recordAt}
+use Rattle.table.specs.Rules.{Sound-table}
+use Rattle.table.specs.Applies.{Table-applies}
 use Rattle.decisions.specs.declared.Job.the-variants.{Resting, Working}
 use Rattle.decisions.specs.declared.Last.the-variants.{At}
 use Rattle.scheduler.specs.declared.State.{State}
@@ -12,7 +15,17 @@ use Rattle.decisions.specs.declared.Tally.{Tally}
 use Rattle.decisions.specs.Fits.{clockEnd, total}
 use Rattle.scheduler.specs.States.{entryIn}
 use Rattle.scheduler.specs.Lawful.{Lawful-state}
+use Rattle.scheduler.specs.Starts.{Given}
 use Rattle.decisions.specs.Energies.{powerMost}
+
+-- WHEN A REFUSAL APPLIES TO A START: 14 does where V is above S; the others do as they apply to its table.
+abbrev pub Start-applies : Given → Refusal → Type 0
+Start-applies g r = Table-applies (g .table) r ⊎ ((r ≡ refusal.LongWaking) × (recordAt (g .table) 0 .work < g .waking))
+
+-- No refusal applies to a start where the table, of n tasks, is sound and V is at most S.
+pub record Startable (g : Given) (n : ℕ) : Type 0 where
+  pub sound : Sound-table (g .table) n
+  pub waking-fits : g .waking ≤ recordAt (g .table) 0 .work
 
 -- WHEN A REFUSAL APPLIES TO A RELEASE: 6 does where the state breaks a rule, 7 where the clock stands at its end, 8
 -- where the task number is not in 1 to n, 9 where the demand is not in 1 to C, 10 where it is task 1 off a multiple of
@@ -31,6 +44,7 @@ Release-applies s task demand refusal.OffBoundary = (task ≡ 1) × (s .clock % 
 Release-applies s task demand refusal.Working = (a : ℕ) × (l : ℕ) × (entryIn s (task - 1) .job ≡ Working a l)
 Release-applies s task demand refusal.Early = (a : ℕ) × (entryIn s (task - 1) .last ≡ At a) × (s .clock < a + entryIn s (task - 1) .task .period)
 Release-applies s task demand refusal.Power = ⊥
+Release-applies s task demand refusal.LongWaking = ⊥
 
 -- No refusal applies to a release where the rules are kept, the clock is before its end, there is such a task, the
 -- demand is 1 to C, task 1 is at a multiple of H, the task rests, and its last release is at least its period ago.
@@ -65,9 +79,11 @@ Step-applies s t refusal.OffBoundary = ⊥
 Step-applies s t refusal.Working = ⊥
 Step-applies s t refusal.Early = ⊥
 Step-applies s t refusal.Power = ⊥
+Step-applies s t refusal.LongWaking = ⊥
 
 -- WHEN A REFUSAL APPLIES TO AN ENERGY READING: 6 does where the counts sum to more than 1,000,000,000, 13 where a power
 -- figure is above 1,000,000 microwatts, and no other one.
-abbrev pub Energy-applies : Tally → ℕ → ℕ → Refusal → Type 0
-Energy-applies t run sleep r =
-    ((r ≡ refusal.Unfit) × (clockEnd < total t)) ⊎ ((r ≡ refusal.Power) × ((powerMost < run) ⊎ (powerMost < sleep)))
+abbrev pub Energy-applies : Tally → ℕ → ℕ → ℕ → Refusal → Type 0
+Energy-applies t run sleep waking r =
+    ((r ≡ refusal.Unfit) × (clockEnd < total t))
+    ⊎ ((r ≡ refusal.Power) × ((powerMost < run) ⊎ (powerMost < sleep) ⊎ (powerMost < waking)))

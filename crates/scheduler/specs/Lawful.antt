@@ -18,10 +18,11 @@ pub record Lawful-task (s : State) (i : ℕ) : Type 0 where
   pub job-fits : (a l : ℕ) → entryIn s i .job ≡ Working a l → (1 ≤ l) × (l ≤ entryIn s i .task .work) × (entryIn s i .last ≡ At a)
 
 -- A state keeps its rules: its records are a sound set of at most 16 tasks, as a table's are, its clock is not after
--- its end, its tasks keep their rules, and every place after them is a spare one.
+-- its end, its waking length is at most S, its tasks keep their rules, and every place after them is a spare one.
 pub record Lawful-state (s : State) : Type 0 where
   pub set : Sound-set (recordIn s) (s .n)
   pub few : s .n ≤ places
   pub in-time : s .clock ≤ clockEnd
+  pub waking-fits : s .waking ≤ s .sleep .work
   pub task : (i : ℕ) → i < s .n → Lawful-task s i
   pub spare : (i : ℕ) → s .n ≤ i → i < places → entryIn s i ≡ noEntry

@@ -19,13 +19,14 @@ use Rattle.scheduler.specs.declared.State.{State}
 abbrev pub entryIn : State → ℕ → Entry
 entryIn s i = getD (s .entries) i noEntry
 
--- The head is what a state holds beside its entries: the sleep record, the number of tasks and the clock.
+-- The head is what a state holds beside its entries: the sleep record, the number of tasks, the clock and the waking
+-- length.
 abbrev pub headOf : State → Head
-headOf s = record { sleep = s .sleep; n = s .n; clock = s .clock }
+headOf s = record { sleep = s .sleep; n = s .n; clock = s .clock; waking = s .waking }
 
 -- `withEntries` is the state with other entries.
 abbrev pub withEntries : State → List Entry → State
-withEntries s entries = record { sleep = s .sleep; n = s .n; clock = s .clock; entries = entries }
+withEntries s entries = record { sleep = s .sleep; n = s .n; clock = s .clock; waking = s .waking; entries = entries }
 
 -- `withEntry` is the state with another entry at place i.
 abbrev pub withEntry : State → ℕ → Entry → State
@@ -33,7 +34,11 @@ withEntry s i e = withEntries s (set (s .entries) i e)
 
 -- `aged` is the state one tick on.
 abbrev pub aged : State → State
-aged s = record { sleep = s .sleep; n = s .n; clock = s .clock + 1; entries = s .entries }
+aged s = record { sleep = s .sleep; n = s .n; clock = s .clock + 1; waking = s .waking; entries = s .entries }
+
+-- `withWaking` is the state with another waking length.
+abbrev pub withWaking : State → ℕ → State
+withWaking s v = record { sleep = s .sleep; n = s .n; clock = s .clock; waking = v; entries = s .entries }
 
 -- `recordIn` is record k of the state's table: record 0 is the sleep record, record k that of the task at place k - 1.
 unfoldable pub recordIn : State → ℕ → Record

@@ -6,7 +6,7 @@ use Rattle.table.specs.declared.Refusal.{Refusal}
 use Rattle.scheduler.specs.declared.State.{State}
 use Rattle.decisions.specs.declared.Tally.{Tally}
 use Rattle.decisions.specs.declared.Count.{Count}
-use Rattle.decisions.specs.declared.Count.the-variants.{Runs, Slots, Tails}
+use Rattle.decisions.specs.declared.Count.the-variants.{Runs, Slots, Tails, Wakings}
 use Rattle.decisions.specs.declared.Tick.{Tick}
 use Rattle.decisions.specs.declared.Tick.the-variants.{Run, Slot, Tail}
 use Rattle.scheduler.specs.declared.Ticked.the-variants as ticked
@@ -38,9 +38,10 @@ afterTick s Tail = aged s
 
 -- `raised` is the tally with one count up by one.
 abbrev pub raised : Tally → Count → Tally
-raised t Runs = record { run = t .run + 1; slot = t .slot; tail = t .tail }
-raised t Slots = record { run = t .run; slot = t .slot + 1; tail = t .tail }
-raised t Tails = record { run = t .run; slot = t .slot; tail = t .tail + 1 }
+raised t Runs = record { run = t .run + 1; slot = t .slot; tail = t .tail; waking = t .waking }
+raised t Slots = record { run = t .run; slot = t .slot + 1; tail = t .tail; waking = t .waking }
+raised t Tails = record { run = t .run; slot = t .slot; tail = t .tail + 1; waking = t .waking }
+raised t Wakings = record { run = t .run; slot = t .slot; tail = t .tail; waking = t .waking + 1 }
 
 -- `made` is what a step gives for the tick that it makes.
 abbrev pub made : State → Tally → Tick → Moved

@@ -8,7 +8,7 @@ ghost use Rattle.base.specs.First.{firstFrom};
 ghost use Rattle.table.specs.Bytes.{noRecord};
 ghost use Rattle.decisions.specs.Fits.{clockEnd, noEntry, total};
 ghost use Rattle.scheduler.specs.States.{headOf, placesFit, stateFits, entriesOf};
-ghost use Rattle.scheduler.specs.Starts.{startOf};
+ghost use Rattle.scheduler.specs.Starts.{readGiven, startOf};
 ghost use Rattle.scheduler.specs.Releases.{releaseAnswer, releaseOf};
 ghost use Rattle.decisions.specs.Ticks.{came};
 ghost use Rattle.scheduler.specs.Steps.{tickOf, afterTick, raised as raisedOf, stepOf, Ready};
@@ -29,6 +29,7 @@ use decisions::may_release;
 use decisions::may_step;
 use decisions::place_fits;
 use decisions::run_or_tail;
+use decisions::waking_fits;
 use decisions::worked;
 use table::MOST_TASKS;
 use table::PLACES;
@@ -38,12 +39,13 @@ use table::Refusal;
 use table::read;
 use table::record_at;
 
-// A state holds the table, the clock and one entry per task. A place after those of the n tasks is
-// spare: a record of zeros that rests and reads never.
+// A state holds the table, the clock, the waking length V and one entry per task. A place after
+// those of the n tasks is spare: a record of zeros that rests and reads never.
 pub struct State {
     pub sleep: Record,
     pub n: u32,
     pub clock: u32,
+    pub waking: u32,
     pub entries: [Entry; PLACES],
 }
 
@@ -74,12 +76,13 @@ pub struct Moved {
     pub state: State,
 }
 
-// A start gives a table's fresh state: clock 0, every task resting, never released. Refusals 1 to 4
-// come with a state of no tasks, which every step and release refuses. Refusal 5 is not given here.
-pub fn start(table: &[u8]) -> Started
-    ensures { λ r. ⌜ r ≡ startOf (record { table = now (table .entry) }) ⌝ }
+// A start gives the fresh state of a table and a waking length: clock 0, every task resting, never
+// released. Refusals 1 to 4 and 14 come with a state of no tasks, which every step and release
+// refuses. Refusal 5 is not given here.
+pub fn start(table: &[u8], waking: u32) -> Started
+    ensures { λ r. ⌜ r ≡ startOf (record { table = now (table .entry); waking = waking }) ⌝ }
 {
-    let reading = read(table);
+    let reading = read_given(table, waking);
     match reading {
         Reading::Sound { tasks } => {
             let entries = fresh(table, tasks);
@@ -88,6 +91,7 @@ pub fn start(table: &[u8]) -> Started
                 sleep: sleep,
                 n: tasks,
                 clock: 0,
+                waking: waking,
                 entries: entries,
             };
             Started {
@@ -100,6 +104,7 @@ pub fn start(table: &[u8]) -> Started
                 sleep: no_record(),
                 n: 0,
                 clock: 0,
+                waking: 0,
                 entries: [spare(); PLACES],
             };
             Started {
@@ -182,6 +187,23 @@ pub fn step_on(state: State, tally: Tally) -> Moved
     }
 }
 
+// `read_given` reads what a start is given: the table's refusals come first, then 14.
+fn read_given(table: &[u8], waking: u32) -> Reading
+    ensures { λ r. ⌜ r ≡ readGiven (record { table = now (table .entry); waking = waking }) ⌝ }
+{
+    let reading = read(table);
+    match reading {
+        Reading::Sound { tasks } => {
+            let sleep = record_at(table, 0);
+            if !waking_fits(waking, sleep) {
+                return Reading::Refused(Refusal::LongWaking);
+            }
+            Reading::Sound { tasks: tasks }
+        }
+        Reading::Refused(refusal) => Reading::Refused(refusal),
+    }
+}
+
 // `fresh` gives the entries of a table's n tasks, resting and never released, and spare places.
 fn fresh(table: &[u8], n: u32) -> [Entry; PLACES]
     requires { ⌜ n ≤ 16 ⌝ }
@@ -232,6 +254,7 @@ fn head_of(state: State) -> Head
         sleep: sleep,
         n: state.n,
         clock: state.clock,
+        waking: state.waking,
     }
 }
 
@@ -344,6 +367,10 @@ fn raised(tally: Tally, count: Count) -> Tally
         }
         Count::Tails => {
             u.tail = tally.tail + 1;
+            u
+        }
+        Count::Wakings => {
+            u.waking = tally.waking + 1;
             u
         }
     }

@@ -3,7 +3,7 @@
 -- reading of a table, for a release and for a step.
 use Prim.Native.Nat.{ℕ, _+_, _≤_, _<_}
 use mathlib.Core.Path.{_≡_, refl, ap, subst, sym, _∙_}
-use mathlib.Core.Logic.{_↔_}
+use mathlib.Core.Logic.{_↔_, _⊎_, inl}
 use mathlib.Core.Bool.{Bool, true, false, cond}
 use native.Mathlib.Omega.{arith}
 use Rattle.base.proofs.Split.{by-lt, by-eq}
@@ -28,6 +28,10 @@ holds false F t n = absurd (n (λ f. not-both false (t .1 f) refl))
 -- `number` is a refusal's number.
 abbrev pub number : Refusal → ℕ
 number r = toldOf r .number
+
+-- The lowest that applies for one of two reasons, where it applies for the first, is the lowest that does for the first.
+pub lowest-of-first : {First Other : Refusal → Type 0} {r : Refusal} → Lowest (λ q. First q ⊎ Other q) r → First r → Lowest First r
+lowest-of-first L f = record { applies = f; none-lower = λ q lower a. L .none-lower q lower (inl a) }
 
 -- `Below Applies b` says that no refusal with a number below b applies.
 abbrev pub Below : (Refusal → Type 0) → ℕ → Type 0

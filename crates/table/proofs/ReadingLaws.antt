@@ -14,7 +14,7 @@ use Rattle.base.proofs.ChoiceLaws.{both}
 use Rattle.base.proofs.FirstLaws.{Is-first, first-is}
 use Rattle.table.specs.declared.Record.{Record}
 use Rattle.table.specs.declared.Refusal.{Refusal}
-use Rattle.table.specs.declared.Refusal.the-variants.{Length, Broken, Falling, Sleep, NoWindow, Unfit, ClockEnd, NoTask, Demand, OffBoundary, Working, Early, Power}
+use Rattle.table.specs.declared.Refusal.the-variants.{Length, Broken, Falling, Sleep, NoWindow, Unfit, ClockEnd, NoTask, Demand, OffBoundary, Working, Early, Power, LongWaking}
 use Rattle.table.specs.declared.Reading.{Reading}
 use Rattle.table.specs.declared.Reading.the-variants.{Sound, Refused}
 use Rattle.table.specs.Bytes.{recordsIn, recordAt}
@@ -131,6 +131,11 @@ known bytes OffBoundary a = absurd a
 known bytes Working a = absurd a
 known bytes Early a = absurd a
 known bytes Power a = absurd a
+known bytes LongWaking a = absurd a
+
+-- The refusals that apply to a table have numbers below 5.
+pub table-numbers : (bytes : List ℕ) (q : Refusal) → Table-applies bytes q → number q < 5
+table-numbers bytes q a = known bytes q a .1
 
 -- `Says` is what a reading says of the refusals that apply: sound that none does, refused that its own is the lowest.
 abbrev Says : (Refusal → Type 0) → Reading → Type 0

@@ -21,7 +21,7 @@ use Rattle.table.specs.Bytes.{recordsIn, recordAt}
 use Rattle.table.specs.Sound.{largest, places, recordFits, sleepFits, broken, falling, firstBroken, firstFalling, askRecords, askOrder, askSleep, lengthFits, readOf}
 
 -- A refused reading is not sound.
-refused-not-sound : (f : Refusal) (n : ℕ) → Refused f ≡ Sound n → ⊥
+pub refused-not-sound : (f : Refusal) (n : ℕ) → Refused f ≡ Sound n → ⊥
 refused-not-sound f n e = let z : _≡_ {A = ℕ} 0 1 = cc in omega arith
 
 -- A record that passes the test keeps the rule of C, T and the reserved field.

@@ -28,7 +28,7 @@ pub struct Record {
     pub reserved: u32,
 }
 
-// These refusals are what is turned away, in the order of their numbers, 1 to 13 (RULES 3.1).
+// These refusals are what is turned away, in the order of their numbers, 1 to 14 (RULES 3.1).
 pub enum Refusal {
     Length,
     Broken { record: u32 },
@@ -43,6 +43,7 @@ pub enum Refusal {
     Working,
     Early,
     Power,
+    LongWaking,
 }
 
 // This is a refusal as RULES 3.1 gives it: its number, the record or task that comes back with
@@ -219,6 +220,7 @@ pub fn tell(refusal: Refusal) -> Told
         Refusal::Working => placed(11, 0),
         Refusal::Early => placed(12, 0),
         Refusal::Power => placed(13, 0),
+        Refusal::LongWaking => placed(14, 0),
     }
 }
 

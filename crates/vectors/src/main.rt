@@ -1,4 +1,4 @@
-// The schedule is run and compared: case J of RULES 15 tick by tick, F's run, every refusal 6 to 13
+// The schedule is run and compared: case J of RULES 15 tick by tick, F's run, every refusal 6 to 14
 // at small inputs with what came back, and a state for every rule of RULES 4.
 ghost use mathlib.Core.Path.{_≡_};
 ghost use Rattle.scheduler.specs.Steps.{stepOf};
@@ -34,42 +34,85 @@ fn main() {
     tables();
     entries();
     spares();
+    wakings();
     tallies();
     energies();
 }
 
-// An accepted start and a refused one are shown here, and what a refused one's state gets.
+// Starts are shown here with V up to S and above it, where the refusals of the table come first, and
+// what a refused one's state gets.
 fn starts() {
     say(b"starts\n");
-    let house = start(&HOUSE);
-    let none = start(&HOUSE[..79]);
-    let answer = house.answer;
-    let state = house.state;
-    answered(answer);
-    shown(state);
-    let answer = none.answer;
-    let state = none.state;
-    answered(answer);
-    shown(state);
+    began(b"V = 0", &HOUSE, 0);
+    began(b"V = S", &HOUSE, 8);
+    began(b"V = S + 1", &HOUSE, 9);
+    began(b"V = 4,294,967,295", &HOUSE, 4294967295);
+    began(b"79 bytes", &HOUSE[..79], 0);
+    began(b"79 bytes, V = S + 1", &HOUSE[..79], 9);
+    let broken = edited(68, 0);
+    began(b"C = 0 in task 4, V = S + 1", &broken, 9);
+    let falling = edited(56, 49);
+    began(b"period of task 3 below task 2's, V = S + 1", &falling, 9);
+    let sleepy = edited(4, 20);
+    began(b"S = H, V = S + 1", &sleepy, 21);
+    let uneven = edited(24, 30);
+    began(b"period 1 no multiple of H, V = S + 1", &uneven, 9);
     say(b"a refused start's state\n");
-    stepped(state, 0, 0, 0);
+    let none = start(&HOUSE, 9);
+    let state = none.state;
+    stepped(state, 0, 0, 0, 0);
     asked(state, 2, 1);
 }
 
-// Case J runs the worst pattern on the house table for 40 ticks, with its tally and its energy.
+// A start writes its answer and its state.
+fn began(name: &[u8], table: &[u8], waking: u32) {
+    say(name);
+    say(b": ");
+    let begun = start(table, waking);
+    let answer = begun.answer;
+    let state = begun.state;
+    answered(answer);
+    shown(state);
+}
+
+// The house table has another byte at one place.
+fn edited(at: usize, byte: u8) -> [u8; 80] {
+    let mut table = HOUSE;
+    if at < 80 {
+        table[at] = byte;
+    }
+    table
+}
+
+// Case J runs the worst pattern on the house table for 40 ticks, with its tally and its energy. V
+// takes ticks from one count to another, and no tick changes.
 fn case_j() {
     say(b"J\n");
-    let ran = run_of(&HOUSE, 20, 1, 40, Written::Ticks);
+    let ran = run_of(&HOUSE, 0, 40, 20, 1, Written::Ticks);
+    booked(ran);
+    woken_j(2);
+    woken_j(8);
+}
+
+fn woken_j(waking: u32) {
+    say(b"J, V = ");
+    line(waking);
+    let ran = run_of(&HOUSE, waking, 40, 20, 1, Written::Drawn);
+    say(b"\n");
+    booked(ran);
+}
+
+fn booked(ran: Ran) {
     let tally = ran.tally;
     counted(tally);
-    consumed(tally, 23000, 16);
+    consumed(tally, 23000, 16, 9000);
 }
 
 // F's set runs with every task released from tick 0 at its period: what is refused and what
 // finishes is written.
 fn figure_3() {
     say(b"F\n");
-    let ran = run_of(&FIGURE_3, 0, 0, 90, Written::Finishes);
+    let ran = run_of(&FIGURE_3, 0, 90, 0, 0, Written::Finishes);
     let tally = ran.tally;
     counted(tally);
 }
@@ -110,17 +153,17 @@ fn releases() {
 // The last clock is tried here, also in a state that breaks a rule.
 fn ends() {
     say(b"the clock's end\n");
-    let begun = start(&HOUSE);
+    let begun = start(&HOUSE, 0);
     let s = begun.state;
     let last = clocked(s, 999999999);
     let over = clocked(s, 1000000000);
     let past = clocked(s, 1000000001);
     let broken = slept(over, record(10, 0, 20, 0));
-    stepped(last, 0, 0, 999999999);
-    stepped(over, 0, 0, 1000000000);
-    stepped(over, 0, 0, 999999999);
-    stepped(past, 0, 0, 1000000001);
-    stepped(broken, 0, 0, 1000000000);
+    stepped(last, 0, 0, 999999999, 0);
+    stepped(over, 0, 0, 1000000000, 0);
+    stepped(over, 0, 0, 999999999, 0);
+    stepped(past, 0, 0, 1000000001, 0);
+    stepped(broken, 0, 0, 1000000000, 0);
     asked(last, 2, 3);
     asked(over, 2, 3);
     asked(over, 0, 0);
@@ -134,7 +177,7 @@ fn ends() {
 fn tables() {
     let s = house_at(30);
     let z = s.sleep;
-    let none = start(&HOUSE[..79]);
+    let none = start(&HOUSE[..79], 0);
     let empty = none.state;
     tried(b"as it is", s);
     tried(b"n = 0", slept(clocked(empty, 30), z));
@@ -261,39 +304,77 @@ fn spares() {
     tried(b"spare places as they should be", tasked(s, 15, nothing));
 }
 
-// Tallies that do not sum to the clock are tried here.
-fn tallies() {
-    say(b"tallies at 30\n");
+// States with a V up to S and above it are tried here, and which ticks raise the waking count: with
+// V = 2, S = 8 and H = 20 the slot ticks with t mod H = 6 and 7.
+fn wakings() {
     let s = house_at(30);
-    stepped(s, 2, 16, 12);
-    stepped(s, 3, 16, 12);
-    stepped(s, 2, 16, 11);
-    stepped(s, 4294967295, 31, 0);
-    stepped(s, 4294967295, 4294967295, 4294967295);
+    tried(b"V = S", woken(s, 8));
+    tried(b"V = S + 1", woken(s, 9));
+    tried(b"V = 4,294,967,295", woken(s, 4294967295));
+    say(b"V = 2, at 25 to 28\n");
+    let s = woken(house_at(20), 2);
+    stepped(clocked(s, 25), 0, 11, 12, 2);
+    stepped(clocked(s, 26), 0, 12, 12, 2);
+    stepped(clocked(s, 27), 0, 12, 12, 3);
+    stepped(clocked(s, 28), 0, 12, 12, 4);
+}
+
+// Tallies that do not sum to the clock are tried here: each count off by one, and sums that pass 32
+// bits, the first three of which leave 30 there.
+fn tallies() {
+    say(b"V = 2, tallies at 30\n");
+    let s = woken(house_at(30), 2);
+    stepped(s, 2, 12, 12, 4);
+    stepped(s, 3, 12, 12, 4);
+    stepped(s, 2, 11, 12, 4);
+    stepped(s, 2, 12, 13, 4);
+    stepped(s, 2, 12, 12, 3);
+    stepped(s, 4294967295, 15, 12, 4);
+    stepped(s, 2, 12, 17, 4294967295);
+    stepped(s, 4294967295, 4294967295, 4294967295, 33);
+    stepped(s, 4294967295, 4294967295, 4294967295, 4294967295);
 }
 
 // Refusals 6 and 13 of an energy reading are tried here.
 fn energies() {
     say(b"energies\n");
-    consumed(tally_of(11, 16, 13), 23000, 16);
-    consumed(tally_of(11, 16, 13), 1000000, 1000000);
-    consumed(tally_of(11, 16, 13), 1000001, 16);
-    consumed(tally_of(11, 16, 13), 23000, 1000001);
-    consumed(tally_of(1000000000, 0, 0), 1000000, 1000000);
-    consumed(tally_of(1000000000, 0, 0), 1000000, 0);
-    consumed(tally_of(0, 1000000000, 0), 0, 1000000);
-    consumed(tally_of(0, 0, 1000000000), 0, 1000000);
-    consumed(tally_of(300000000, 300000000, 400000000), 999999, 1000000);
-    consumed(tally_of(1000000000, 0, 1), 1, 1);
-    consumed(tally_of(1000000000, 0, 1), 1000001, 1);
-    consumed(tally_of(4294967295, 1, 0), 1, 1);
-    consumed(tally_of(4294967295, 4294967295, 4294967295), 1, 1);
-    consumed(zeros(), 1000000, 1000000);
+    let forty = tally_of(11, 12, 13, 4);
+    consumed(forty, 23000, 16, 9000);
+    consumed(forty, 1000000, 1000000, 1000000);
+    consumed(forty, 0, 0, 1000000);
+    consumed(forty, 1000001, 16, 9000);
+    consumed(forty, 23000, 1000001, 9000);
+    consumed(forty, 23000, 16, 1000001);
+    consumed(tally_of(1000000000, 0, 0, 0), 1000000, 1000000, 1000000);
+    consumed(tally_of(1000000000, 0, 0, 0), 1000000, 0, 0);
+    consumed(tally_of(0, 1000000000, 0, 0), 0, 1000000, 0);
+    consumed(tally_of(0, 0, 1000000000, 0), 0, 1000000, 0);
+    consumed(tally_of(0, 0, 0, 1000000000), 0, 0, 1000000);
+    consumed(
+        tally_of(200000000, 300000000, 400000000, 100000000),
+        999999,
+        1000000,
+        999998,
+    );
+    consumed(tally_of(1000000000, 0, 1, 0), 1, 1, 1);
+    consumed(tally_of(1000000000, 0, 0, 1), 1, 1, 1);
+    consumed(tally_of(1000000000, 0, 1, 0), 1000001, 1, 1);
+    consumed(tally_of(0, 0, 0, 1000000001), 1, 1, 1000001);
+    consumed(tally_of(4294967295, 1, 0, 0), 1, 1, 1);
+    consumed(tally_of(0, 0, 1, 4294967295), 1, 1, 1);
+    consumed(
+        tally_of(4294967295, 4294967295, 4294967295, 4294967295),
+        1,
+        1,
+        1,
+    );
+    consumed(zeros(), 1000000, 1000000, 1000000);
+    consumed(zeros(), 0, 0, 1000001);
 }
 
 // The state is that of the house table under the worst pattern, before the step at clock t.
 fn house_at(t: u32) -> State {
-    let ran = run_of(&HOUSE, 20, 1, t, Written::Nothing);
+    let ran = run_of(&HOUSE, 0, t, 20, 1, Written::Nothing);
     let state = ran.state;
     given(state, t, 20, 1)
 }
@@ -302,6 +383,7 @@ fn house_at(t: u32) -> State {
 enum Written {
     Nothing,
     Ticks,
+    Drawn,
     Finishes,
 }
 
@@ -310,10 +392,10 @@ struct Ran {
     tally: Tally,
 }
 
-// A set runs from its start up to clock `end`: task 1 is released from tick `first` on, the others
-// from `others` on, each at its period.
-fn run_of(table: &[u8], first: u32, others: u32, end: u32, what: Written) -> Ran {
-    let begun = start(table);
+// A set runs from its start with V up to clock `end`: task 1 is released from tick `first` on, the
+// others from `others` on, each at its period.
+fn run_of(table: &[u8], waking: u32, end: u32, first: u32, others: u32, what: Written) -> Ran {
+    let begun = start(table, waking);
     let mut state = begun.state;
     let mut tally = zeros();
     let mut t: u32 = 0;
@@ -341,6 +423,7 @@ fn noted(what: Written, t: u32, before: State, after: State, answer: Ticked) {
             number(t);
             ticked(answer);
         }
+        Written::Drawn => drawn(answer),
         Written::Finishes => finished(before, after, answer),
     }
 }
@@ -407,7 +490,7 @@ fn refused_at(t: u32, i: u32, answer: Answer) {
 fn tried(name: &[u8], s: State) {
     say(name);
     say(b": ");
-    let moved = step_lent(s, tally_of(2, 16, 12));
+    let moved = step_lent(s, tally_of(2, 16, 12, 0));
     let answer = moved.answer;
     told(answer);
     let after = moved.state;
@@ -428,9 +511,9 @@ fn asked(s: State, task: u32, demand: u32) {
 }
 
 // A step with a tally writes the answer, whether the state changed, and the tally after it.
-fn stepped(s: State, run: u32, slot: u32, tail: u32) {
+fn stepped(s: State, run: u32, slot: u32, tail: u32, waking: u32) {
     say(b"step ");
-    let moved = step_lent(s, tally_of(run, slot, tail));
+    let moved = step_lent(s, tally_of(run, slot, tail, waking));
     let answer = moved.answer;
     let after = moved.state;
     let counts = moved.tally;
@@ -482,8 +565,8 @@ fn finish(before: State, after: State, k: u32) {
     }
 }
 
-fn consumed(tally: Tally, run: u32, sleep: u32) {
-    let e = energy(tally, run, sleep);
+fn consumed(tally: Tally, run: u32, sleep: u32, waking: u32) {
+    let e = energy(tally, run, sleep, waking);
     let answer = e.answer;
     say(b"energy ");
     io::print_decimal(1, e.nanojoules);
@@ -495,13 +578,28 @@ fn counted(tally: Tally) {
     say(b"tally ");
     number(tally.run);
     number(tally.slot);
-    line(tally.tail);
+    number(tally.tail);
+    line(tally.waking);
 }
 
 // The line says what a tick was, or the refusal.
 fn ticked(answer: Ticked) {
     told(answer);
     say(b"\n");
+}
+
+// A sign is a tick: z for slot, a dot for tail, a task's number for its run.
+fn drawn(answer: Ticked) {
+    match answer {
+        Ticked::Refused(_) => say(b"!"),
+        Ticked::Tick(tick) => match tick {
+            Tick::Slot => say(b"z"),
+            Tick::Tail => say(b"."),
+            Tick::Run(k) => {
+                io::print_decimal(1, k as u64);
+            }
+        },
+    }
 }
 
 fn told(answer: Ticked) {
@@ -548,6 +646,8 @@ fn shown(s: State) {
     number(s.n);
     say(b"clock ");
     number(s.clock);
+    say(b"V ");
+    number(s.waking);
     say(b"sum ");
     io::print_decimal(1, sum(s));
     say(b"\n");
@@ -556,7 +656,7 @@ fn shown(s: State) {
 // The sum is over every field of a state, each at a weight of its own.
 fn sum(s: State) -> u64 {
     let z = s.sleep;
-    let mut x = mixed(mixed(17, s.n), s.clock);
+    let mut x = mixed(mixed(mixed(17, s.n), s.clock), s.waking);
     x = recorded(x, z);
     let entries = s.entries;
     let mut i: usize = 0;
@@ -597,6 +697,12 @@ fn mixed(x: u64, y: u32) -> u64 {
 fn clocked(s: State, clock: u32) -> State {
     let mut next = s;
     next.clock = clock;
+    next
+}
+
+fn woken(s: State, waking: u32) -> State {
+    let mut next = s;
+    next.waking = waking;
     next
 }
 
@@ -684,16 +790,17 @@ fn record(label: u32, work: u32, period: u32, reserved: u32) -> Record {
     }
 }
 
-fn tally_of(run: u32, slot: u32, tail: u32) -> Tally {
+fn tally_of(run: u32, slot: u32, tail: u32, waking: u32) -> Tally {
     Tally {
         run: run,
         slot: slot,
         tail: tail,
+        waking: waking,
     }
 }
 
 fn zeros() -> Tally {
-    tally_of(0, 0, 0)
+    tally_of(0, 0, 0, 0)
 }
 
 fn number(n: u32) {

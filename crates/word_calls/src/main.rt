@@ -15,8 +15,8 @@ const FIGURE_1: [u8; 64] =
 
 // These words are all that a stop has to save.
 struct Saved {
-    state: [u32; 150],
-    tally: [u32; 3],
+    state: [u32; 151],
+    tally: [u32; 4],
 }
 
 fn main() {
@@ -34,6 +34,7 @@ fn main() {
     at_40(end);
     at_the_end(begun);
     strays(stop);
+    short_state();
     energies();
     other_lengths();
 }
@@ -57,26 +58,26 @@ fn admits() {
     written(&short);
 }
 
-// A start writes every word of a state, a refused one writes none.
+// A start writes every word of a state, a refused one writes none. V = 9 is above S = 8.
 fn starts() -> Saved {
-    let mut state = [7u32; 150];
-    say(b"start on 79 bytes of the house table\n");
-    answered(node_start(&HOUSE[..79], &mut state));
-    number(state[0]);
-    number(state[5]);
-    line(state[149]);
-    let mut short = [7u32; 149];
-    say(b"start into 149 words\n");
-    answered(node_start(&HOUSE, &mut short));
-    number(short[0]);
-    number(short[5]);
-    line(short[148]);
-    say(b"start on the house table\n");
-    answered(node_start(&HOUSE, &mut state));
+    let mut state = [7u32; 151];
+    say(b"start on 79 bytes of the house table, V = 2 and 9\n");
+    answered(node_start(&HOUSE[..79], 2, &mut state));
+    answered(node_start(&HOUSE[..79], 9, &mut state));
+    say(b"start on the house table, V = 9\n");
+    answered(node_start(&HOUSE, 9, &mut state));
+    written(&state);
+    let mut short = [7u32; 150];
+    say(b"start into 150 words, V = 2 and 9\n");
+    answered(node_start(&HOUSE, 2, &mut short));
+    answered(node_start(&HOUSE, 9, &mut short));
+    written(&short);
+    say(b"start on the house table, V = 2\n");
+    answered(node_start(&HOUSE, 2, &mut state));
     written(&state);
     Saved {
         state: state,
-        tally: [0u32; 3],
+        tally: [0u32; 4],
     }
 }
 
@@ -165,55 +166,69 @@ fn strays(s: Saved) {
     let mut state = s.state;
     let mut tally = s.tally;
     say(b"task 1 neither rests nor works\n");
-    state[10] = 2;
+    state[11] = 2;
     stepped(&mut state, &mut tally);
     asked(&mut state, 2, 3);
-    state[10] = 0;
+    state[11] = 0;
     say(b"task 1 rests with work left\n");
-    state[12] = 1;
+    state[13] = 1;
     stepped(&mut state, &mut tally);
     asked(&mut state, 2, 3);
-    state[12] = 0;
-    say(b"a tally of 4 words\n");
-    let mut long = [0u32; 4];
-    long[0] = 2;
-    long[1] = 16;
-    long[2] = 12;
-    stepped(&mut state, &mut long);
-    say(b"a state of 149 words\n");
-    let mut short = [0u32; 149];
-    stepped(&mut short, &mut tally);
-    asked(&mut short, 2, 3);
+    state[13] = 0;
+    say(b"V = 9, S = 8\n");
+    state[6] = 9;
+    stepped(&mut state, &mut tally);
+    asked(&mut state, 2, 3);
+    state[6] = 2;
+    say(b"tallies of 3 and 5 words\n");
+    stepped(&mut state, &mut [2, 16, 12]);
+    stepped(&mut state, &mut [2, 12, 12, 4, 0]);
     say(b"as they were\n");
     stepped(&mut state, &mut tally);
 }
 
-fn energies() {
-    say(b"energies: number, nanojoules\n");
-    consumed(&[11, 16, 13], 23000, 16);
-    consumed(&[1000000000, 0, 0], 1000000, 1);
-    consumed(&[0, 500000000, 500000000], 1, 1000000);
-    consumed(&[11, 16, 13], 1000001, 16);
-    consumed(&[11, 16, 13], 23000, 1000001);
-    consumed(&[1000000000, 0, 1], 1000001, 1);
-    consumed(&[11, 16], 23000, 16);
+// These words are a state, sleep 1 in 2 and a task of 1 in 2, but for the length.
+fn short_state() {
+    let mut short = [0u32; 150];
+    short[1] = 1;
+    short[2] = 2;
+    short[4] = 1;
+    short[8] = 1;
+    short[9] = 2;
+    say(b"a state of 150 words\n");
+    asked(&mut short, 1, 1);
+    stepped(&mut short, &mut [0, 0, 0, 0]);
 }
 
-// A buffer of another length gets 6, after 1 to 4 of the table and before 13.
+fn energies() {
+    say(b"energies: number, nanojoules\n");
+    consumed(&[11, 12, 13, 4], 23000, 16, 9000);
+    consumed(&[1000000000, 0, 0, 0], 1000000, 1, 1);
+    consumed(&[0, 500000000, 500000000, 0], 1, 1000000, 1);
+    consumed(&[0, 0, 0, 1000000000], 1, 1, 1000000);
+    consumed(&[11, 12, 13, 4], 1000001, 16, 9000);
+    consumed(&[11, 12, 13, 4], 23000, 1000001, 9000);
+    consumed(&[11, 12, 13, 4], 23000, 16, 1000001);
+    consumed(&[1000000000, 0, 1, 0], 1000001, 1, 1);
+    consumed(&[0, 0, 0, 1000000001], 1, 1, 1000001);
+    consumed(&[11, 16, 13], 23000, 16, 9000);
+}
+
+// A buffer of another length gets 6, after 1 to 4 of the table and before 13 and 14.
 fn other_lengths() {
     let mut verdict = [7u32; 47];
     let mut longer = [7u32; 49];
     say(b"admit 79 bytes into 47 words, the house table into 49\n");
     answered(node_admit(&HOUSE[..79], &mut verdict));
     answered(node_admit(&HOUSE, &mut longer));
-    let mut state = [7u32; 149];
-    let mut long = [7u32; 151];
-    say(b"start on 79 bytes into 149 words, on the house table into 151\n");
-    answered(node_start(&HOUSE[..79], &mut state));
-    answered(node_start(&HOUSE, &mut long));
-    say(b"energies of 2 words at 1,000,001 microwatts, of 4 words\n");
-    consumed(&[11, 16], 1000001, 16);
-    consumed(&[11, 16, 13, 0], 23000, 16);
+    let mut state = [7u32; 150];
+    let mut long = [7u32; 152];
+    say(b"V = 9: start on 79 bytes into 150 words, on the house table into 152\n");
+    answered(node_start(&HOUSE[..79], 9, &mut state));
+    answered(node_start(&HOUSE, 9, &mut long));
+    say(b"energies of 3 words at 1,000,001 microwatts, of 5 words\n");
+    consumed(&[11, 16, 13], 23000, 16, 1000001);
+    consumed(&[11, 12, 13, 4, 0], 23000, 16, 9000);
 }
 
 fn asked(state: &mut [u32], task: u32, demand: u32) {
@@ -229,8 +244,8 @@ fn stepped(state: &mut [u32], tally: &mut [u32]) {
     written(tally);
 }
 
-fn consumed(tally: &[u32], run: u32, sleep: u32) {
-    let answer = node_energy(tally, run, sleep);
+fn consumed(tally: &[u32], run: u32, sleep: u32, waking: u32) {
+    let answer = node_energy(tally, run, sleep, waking);
     say(b"energy ");
     io::print_decimal(1, answer % 256);
     say(b" ");
@@ -282,11 +297,6 @@ fn worded(i: usize, word: u32) {
 fn number(n: u32) {
     io::print_decimal(1, n as u64);
     say(b" ");
-}
-
-fn line(n: u32) {
-    io::print_decimal(1, n as u64);
-    say(b"\n");
 }
 
 fn say(text: &[u8]) {

@@ -17,14 +17,22 @@ few c = rw (c .before .total-of .ensures) at (c .if1 .left)
 small : (count power : ℕ) → count ≤ 1000000000 → power ≤ 1000000 → count * power ≤ 1000000000000000
 small count power l m = mul-le-mul {n₂ = 1000000000} {m₂ = 1000000} l m
 
-awake : (c : tie.Else3) → c .before .before .before .before .args .tally .run * c .before .before .before .before .args .run ≤ 1000000000000000
-awake c = let f = few (c .before .before) in small _ _ (omega arith) (omega arith)
+-- So the energy of each kind of ticks is small.
+record Small (c : tie.Else4) : Type 0 where
+  runs-small : c .before .before .before .before .before .args .tally .run * c .before .before .before .before .before .args .run ≤ 1000000000000000
+  slots-small : c .before .before .before .before .before .args .tally .slot * c .before .before .before .before .before .args .sleep ≤ 1000000000000000
+  tails-small : c .before .before .before .before .before .args .tally .tail * c .before .before .before .before .before .args .sleep ≤ 1000000000000000
+  wakings-small : c .before .before .before .before .before .args .tally .waking * c .before .before .before .before .before .args .waking ≤ 1000000000000000
 
-asleep : (c : tie.Else3) → c .before .before .before .before .args .tally .slot * c .before .before .before .before .args .sleep ≤ 1000000000000000
-asleep c = let f = few (c .before .before) in small _ _ (omega arith) (omega arith)
-
-drowsy : (c : tie.Else3) → c .before .before .before .before .args .tally .tail * c .before .before .before .before .args .sleep ≤ 1000000000000000
-drowsy c = let f = few (c .before .before) in small _ _ (omega arith) (omega arith)
+all-small : (c : tie.Else4) → Small c
+all-small c =
+    let f = few (c .before .before .before) in
+    record {
+      runs-small = small _ _ (omega arith) (omega arith);
+      slots-small = small _ _ (omega arith) (omega arith);
+      tails-small = small _ _ (omega arith) (omega arith);
+      wakings-small = small _ _ (omega arith) (omega arith);
+    }
 
 cast-if1 : tie.Need-cast-if1
 cast-if1 c = search needs
@@ -41,33 +49,45 @@ returns-2 c = rw (le-ltb _ _ (few (c .before)), lt-ltb _ _ (c .if2 .taken))
 returns-3 : tie.Need-returns-3
 returns-3 c = rw (le-ltb _ _ (few (c .before .before)), le-ltb _ _ (c .before .if2 .left), lt-ltb _ _ (c .if3 .taken))
 
-cast-awake : tie.Need-cast-awake
-cast-awake c = search needs
-
-mul-awake : tie.Need-mul-awake
-mul-awake c = omega (arith, awake (c .before))
-
-cast-slot : tie.Need-cast-slot
-cast-slot c = search needs
-
-mul-slot : tie.Need-mul-slot
-mul-slot c = omega (arith, asleep (c .before .before))
-
-cast-tail : tie.Need-cast-tail
-cast-tail c = search needs
-
-mul-tail : tie.Need-mul-tail
-mul-tail c = omega (arith, drowsy (c .before .before .before))
-
-add-t7 : tie.Need-add-t7
-add-t7 c = let p = c .before .before .before in omega (arith, awake p, asleep p, drowsy p)
-
-add-t8 : tie.Need-add-t8
-add-t8 c = let p = c .before .before .before in omega (arith, awake p, asleep p, drowsy p)
-
 returns-4 : tie.Need-returns-4
-returns-4 c = let p = c .before .before .before in
-    rw (le-ltb _ _ (few (p .before .before)), le-ltb _ _ (p .before .if2 .left), le-ltb _ _ (p .if3 .left))
+returns-4 c = rw (le-ltb _ _ (few (c .before .before .before)), le-ltb _ _ (c .before .before .if2 .left), le-ltb _ _ (c .before .if3 .left), lt-ltb _ _ (c .if4 .taken))
+
+cast-runs : tie.Need-cast-runs
+cast-runs c = search needs
+
+mul-runs : tie.Need-mul-runs
+mul-runs c = let s = all-small (c .before) in omega arith
+
+cast-slots : tie.Need-cast-slots
+cast-slots c = search needs
+
+mul-slots : tie.Need-mul-slots
+mul-slots c = let s = all-small (c .before .before) in omega arith
+
+cast-tails : tie.Need-cast-tails
+cast-tails c = search needs
+
+mul-tails : tie.Need-mul-tails
+mul-tails c = let s = all-small (c .before .before .before) in omega arith
+
+cast-wakings : tie.Need-cast-wakings
+cast-wakings c = search needs
+
+mul-wakings : tie.Need-mul-wakings
+mul-wakings c = let s = all-small (c .before .before .before .before) in omega arith
+
+add-t9 : tie.Need-add-t9
+add-t9 c = let s = all-small (c .before .before .before .before) in omega arith
+
+add-t10 : tie.Need-add-t10
+add-t10 c = let s = all-small (c .before .before .before .before) in omega arith
+
+add-t21 : tie.Need-add-t21
+add-t21 c = let s = all-small (c .before .before .before .before) in omega arith
+
+returns-5 : tie.Need-returns-5
+returns-5 c = let p = c .before .before .before .before in
+    rw (le-ltb _ _ (few (p .before .before .before)), le-ltb _ _ (p .before .before .if2 .left), le-ltb _ _ (p .before .if3 .left), le-ltb _ _ (p .if4 .left))
 
 pub energy-spec : {M : Type 1} → statement M
 energy-spec =
@@ -78,12 +98,16 @@ energy-spec =
     returns
     returns-2
     returns-3
-    cast-awake
-    mul-awake
-    cast-slot
-    mul-slot
-    cast-tail
-    mul-tail
-    add-t7
-    add-t8
-    returns-4)
+    returns-4
+    cast-runs
+    mul-runs
+    cast-slots
+    mul-slots
+    cast-tails
+    mul-tails
+    cast-wakings
+    mul-wakings
+    add-t9
+    add-t10
+    add-t21
+    returns-5)

@@ -1,17 +1,13 @@
--- `decisions::in_slot` meets its contract; the remainder by 0 is the number itself.
-use native.Mathlib.Nat.{mod-zero}
+-- `decisions::in_slot` meets its contract.
 use borrow.Author.Needs.{needs}
 use Rattle.decisions.proofs.in_slot.Statement.{statement}
 use Rattle.decisions.proofs.in_slot.Tie as tie
 
+since-boundary-requires : tie.Need-since-boundary-requires
+since-boundary-requires c κs = search needs
+
 returns : tie.Need-returns
-returns c = let q = c .before .before .if1 .taken in rw (q, mod-zero)
-
-rem-result : tie.Need-rem-result
-rem-result c = search needs
-
-returns-2 : tie.Need-returns-2
-returns-2 c = search needs
+returns c = rw (c .before .since-boundary .ensures)
 
 pub in-slot-spec : {M : Type 1} → statement M
-in-slot-spec = tie.close (tie.spec returns rem-result returns-2)
+in-slot-spec = tie.close (tie.spec since-boundary-requires returns)

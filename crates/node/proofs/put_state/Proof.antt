@@ -6,7 +6,7 @@ use native.Mathlib.Omega.{arith}
 use Prim.Native.Nat.{_-_, _≤_}
 use Rattle.table.specs.Sound.{places}
 use Rattle.node.specs.Words.{puts}
-use Rattle.node.specs.Layout.{headSize, nAt, clockAt, stateSize, placesWords}
+use Rattle.node.specs.Layout.{headSize, nAt, clockAt, wakingAt, stateSize, placesWords}
 use Rattle.node.proofs.WordLaws.{length-puts}
 use Rattle.node.proofs.LayoutLaws.{place-more-put, state-put}
 use Rattle.node.proofs.put_state.Statement.{statement}
@@ -33,6 +33,9 @@ slice-write-out c = search needs
 
 slice-write-out-2 : tie.Need-slice-write-out-2 Inv-loop μ-loop
 slice-write-out-2 c = simp length-set (omega arith)
+
+slice-write-out-3 : tie.Need-slice-write-out-3 Inv-loop μ-loop
+slice-write-out-3 c = simp length-set (omega arith)
 
 loop-holds : tie.Need-loop-holds Inv-loop μ-loop
 unfolding placesWords
@@ -64,7 +67,7 @@ loop-again c =
     let l = c .before .before .before .before .before .before in
     let k = l .before .before .before .before in
     let s = k .before .before .before .before .args .s in
-    (omega arith, c .before .before .put-entry .ensures ∙ rw (l .loop .inv .1) (sym (place-more-put (set (set (k .put-record .last .0) nAt (s .n)) clockAt (s .clock)) (s .entries) (l .loop .i))))
+    (omega arith, c .before .before .put-entry .ensures ∙ rw (l .loop .inv .1) (sym (place-more-put (set (set (set (k .put-record .last .0) nAt (s .n)) clockAt (s .clock)) wakingAt (s .waking)) (s .entries) (l .loop .i))))
 
 same-length : tie.Need-same-length Inv-loop μ-loop
 same-length c = long (c .before) ∙ sym (c .before .before .before .before .before .before .before .before .before .pre)
@@ -86,6 +89,7 @@ put-state-spec =
     put-record-requires
     slice-write-out
     slice-write-out-2
+    slice-write-out-3
     loop-holds
     mul-e
     array-copy-out-e

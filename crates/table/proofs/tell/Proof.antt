@@ -78,6 +78,12 @@ enum-told-10 c = search needs
 placed-requires-12 : tie.Need-placed-requires-12
 placed-requires-12 c κs = search needs
 
+enum-told-11 : tie.Need-enum-told-11
+enum-told-11 c = search needs
+
+placed-requires-13 : tie.Need-placed-requires-13
+placed-requires-13 c κs = search needs
+
 returns : tie.Need-returns
 returns c = cc
 
@@ -117,6 +123,9 @@ returns-12 c = cc
 returns-13 : tie.Need-returns-13
 returns-13 c = cc
 
+returns-14 : tie.Need-returns-14
+returns-14 c = cc
+
 pub tell-spec : {M : Type 1} → statement M
 tell-spec =
     tie.close
@@ -146,6 +155,8 @@ tell-spec =
     placed-requires-11
     enum-told-10
     placed-requires-12
+    enum-told-11
+    placed-requires-13
     returns
     returns-2
     returns-3
@@ -158,4 +169,5 @@ tell-spec =
     returns-10
     returns-11
     returns-12
-    returns-13)
+    returns-13
+    returns-14)

@@ -5,10 +5,10 @@ use Rattle.vectors.proofs.run_of.Statement.{statement}
 use Rattle.vectors.proofs.run_of.Tie as tie
 
 abbrev Inv-loop : tie.InvT-loop
-Inv-loop table first others end what state₀ tally₀ t₀ state tally t = t ≤ end
+Inv-loop table waking end first others what state₀ tally₀ t₀ state tally t = t ≤ end
 
 abbrev μ-loop : tie.MeasureT-loop
-μ-loop table first others end what state₀ tally₀ t₀ state tally t = end - t
+μ-loop table waking end first others what state₀ tally₀ t₀ state tally t = end - t
 
 start-requires : tie.Need-start-requires Inv-loop μ-loop
 start-requires c κs = search needs

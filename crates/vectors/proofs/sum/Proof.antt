@@ -16,6 +16,9 @@ mixed-requires c κs = search needs
 mixed-requires-2 : tie.Need-mixed-requires-2 Inv-loop μ-loop
 mixed-requires-2 c κs = search needs
 
+mixed-requires-3 : tie.Need-mixed-requires-3 Inv-loop μ-loop
+mixed-requires-3 c κs = search needs
+
 recorded-requires : tie.Need-recorded-requires Inv-loop μ-loop
 recorded-requires c κs = search needs
 
@@ -51,6 +54,7 @@ sum-spec =
     μ-loop
     mixed-requires
     mixed-requires-2
+    mixed-requires-3
     recorded-requires
     loop-holds
     mul-e

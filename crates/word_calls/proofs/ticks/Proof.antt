@@ -7,7 +7,7 @@ use Rattle.word_calls.proofs.ticks.Statement.{statement}
 use Rattle.word_calls.proofs.ticks.Tie as tie
 
 abbrev Inv-loop : tie.InvT-loop
-Inv-loop from to state₀ tally₀ t₀ state tally t = (length state ≡ 150) × (length tally ≡ 3)
+Inv-loop from to state₀ tally₀ t₀ state tally t = (length state ≡ 151) × (length tally ≡ 4)
 
 abbrev μ-loop : tie.MeasureT-loop
 μ-loop from to state₀ tally₀ t₀ state tally t = to - t
