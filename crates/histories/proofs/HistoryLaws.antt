@@ -206,11 +206,12 @@ counted-next p step own few C = go (step-is (p .state) (p .tally))
     go (stays r q) = rw q C
 counted-next p (lend t) own few C = absurd own
 
--- Every list of calls that lend no other tally keeps the counts.
-pub counted-after : (p : Past) (calls : List Call) → Each Own calls → Kept p → Counted p → Counted (after p calls)
+-- What each call that lends no other tally keeps, every list of such calls keeps.
+pub own-after : (P : Past → Type 0) → ((p : Past) (call : Call) → Own call → Kept p → P p → P (next p call))
+    → (p : Past) (calls : List Call) → Each Own calls → Kept p → P p → P (after p calls)
 unfolding folded Each
-counted-after p [] own K C = C
-counted-after p (call ∷ calls) own K C = counted-after (next p call) calls (own .1) (kept-next p call K) (counted-next p call (own .0) (K .lawful-state .few) C)
+own-after P keeps p [] own K x = x
+own-after P keeps p (call ∷ calls) own K x = own-after P keeps (next p call) calls (own .1) (kept-next p call K) (keeps p call (own .0) K x)
 
 -- A fresh start keeps both the accounts and the counts.
 pub kept-begun : (g : Given) (n : ℕ) → readGiven g ≡ read.Sound n → Kept (begun (freshState g n))
@@ -230,7 +231,7 @@ pub history-kept : (g : Given) (n : ℕ) (calls : List Call) → readGiven g ≡
 history-kept g n calls e = kept-after (begun (freshState g n)) calls (kept-begun g n e)
 
 pub history-counted : (g : Given) (n : ℕ) (calls : List Call) → readGiven g ≡ read.Sound n → Each Own calls → Counted (after (begun (freshState g n)) calls)
-history-counted g n calls e own = counted-after (begun (freshState g n)) calls own (kept-begun g n e) (counted-begun g n)
+history-counted g n calls e own = own-after Counted (λ p call o K C. counted-next p call o (K .lawful-state .few) C) (begun (freshState g n)) calls own (kept-begun g n e) (counted-begun g n)
 
 -- The accounts of a history balance: run ticks and all work left are the accepted demands.
 pub accounts : (p : Past) → ((i : ℕ) → i < places → p .runs i + leftIn (p .state) i ≡ p .demands i) → Counted p → p .tally .run + sumTo places (leftIn (p .state)) ≡ sumTo places (p .demands)

@@ -3,13 +3,12 @@
 -- the slot moves r on by one within the period, since S is below H; another moves it on too, or ends the period.
 use Prim.Native.Nat.{ℕ, _+_, _-_, _*_, _%_, _≤_, _<_}
 use mathlib.Core.Path.{_≡_, refl, ap, sym, _∙_}
-use mathlib.Core.List.{List, [], _∷_}
+use mathlib.Core.List.{List}
 use mathlib.Core.Bool.{Bool, true, false, cond}
 use native.Mathlib.Omega.{arith}
 use native.Mathlib.Nat.{add-mul, one-mul, mul-add-mod-self-right, mul-mod-left, mod-eq-of-lt, eq-of-mul-eq-mul-right}
 use borrow.Author.Tests.{leb-true, leb-false}
 use Rattle.base.specs.List.{Each}
-use Rattle.base.specs.Fold.{folded}
 use Rattle.base.proofs.Split.{by-lt}
 use Rattle.decisions.specs.declared.Tally.{Tally}
 use Rattle.decisions.specs.declared.Tick.the-variants.{Run, Slot}
@@ -27,7 +26,7 @@ use Rattle.scheduler.proofs.TickLaws.{Tick-is, slots, runs, tails, tick-is}
 use Rattle.scheduler.proofs.StepLaws.{Step-is, moves, stays, step-is}
 use Rattle.histories.specs.History.{Call, release, step, lend, Own, Past, next, after, begun}
 use Rattle.histories.specs.Waking.{Whole-periods}
-use Rattle.histories.proofs.HistoryLaws.{Kept, kept-next, kept-begun}
+use Rattle.histories.proofs.HistoryLaws.{Kept, own-after, kept-begun}
 
 -- Of the first r ticks of a period, those below d are slot ticks, and those from d on and below S waking ticks; d is
 -- S − V.
@@ -165,11 +164,6 @@ phase-next p step own K P = go (step-is (p .state) (p .tally))
     go (stays r q) = rw q P
 phase-next p (lend t) own K P = absurd own
 
-phase-after : (p : Past) (calls : List Call) → Each Own calls → Kept p → Phase (p .tally) (p .state) → Phase (after p calls .tally) (after p calls .state)
-unfolding folded Each
-phase-after p [] own K P = P
-phase-after p (call ∷ calls) own K P = phase-after (next p call) calls (own .1) (kept-next p call K) (phase-next p call (own .0) K P)
-
 -- EVERY WHOLE PERIOD has S − V slot ticks and V waking ticks.
 phase-whole : (t : Tally) (s : State) (k : ℕ) → Phase t s → s .clock ≡ k * s .sleep .period → Whole-periods t s k
 unfolding slotsIn wakingsIn
@@ -194,7 +188,7 @@ unfolding slotsIn wakingsIn recordIn
 whole-periods g n k calls e own =
     let K = kept-begun g n e in
     phase-whole (after (begun (freshState g n)) calls .tally) (after (begun (freshState g n)) calls .state) k
-    (phase-after (begun (freshState g n)) calls own K (record {
+    (own-after (λ (p : Past). Phase (p .tally) (p .state)) phase-next (begun (freshState g n)) calls own K (record {
       periods = 0;
       rest = 0;
       within = omega (arith, K .lawful-state .set .room);

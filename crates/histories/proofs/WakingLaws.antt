@@ -33,7 +33,8 @@ use Rattle.histories.specs.History.{Call, release, step, lend, Finish, P
 use Rattle.histories.specs.Waking.{withSplit, Split-alone}
 use Rattle.scheduler.proofs.StateLaws.{says-fits}
 use Rattle.scheduler.proofs.TickLaws.{Tick-is, slots, runs, tails, tick-is}
-use Rattle.scheduler.proofs.StepLaws.{Step-is, moves, stays, step-is}
+use Rattle.scheduler.proofs.StepLaws.{Step-is, moves, stays, step-is, step-made}
+use Rattle.scheduler.proofs.AnswerLaws.{step-ticks-exactly}
 use Rattle.histories.proofs.HistoryLaws.{Kept, slot-raised, kept-next}
 
 -- Two states that keep their rules and differ in the waking length alone answer a release alike.
@@ -133,52 +134,37 @@ same-after p q v (call ∷ calls) K J G =
     subst (λ (x : Past). Goes-same v (next p call) (next x call)) (sym (G .same)) (same-next p v (q .tally) call (K .lawful-state) lawful (G .split)) in
     same-after (next p call) (next q call) v calls (kept-next p call K) (kept-next q call J) one
 
--- No call changes the waking length or the sleep record.
-pub record Stays (s u : State) : Type 0 where
-  pub waking-stays : u .waking ≡ s .waking
-  pub sleep-stays : u .sleep ≡ s .sleep
+-- No call changes the waking length.
+tick-stays : (s : State) (tick : Tick) → afterTick s tick .waking ≡ s .waking
+tick-stays s (Run k) = refl
+tick-stays s Slot = refl
+tick-stays s Tail = refl
 
-tick-stays : (s : State) (tick : Tick) → Stays s (afterTick s tick)
-tick-stays s (Run k) = record { waking-stays = refl; sleep-stays = refl }
-tick-stays s Slot = record { waking-stays = refl; sleep-stays = refl }
-tick-stays s Tail = record { waking-stays = refl; sleep-stays = refl }
-
-step-stays : (s : State) (t : Tally) → Stays s (stepOf s t .state)
+step-stays : (s : State) (t : Tally) → stepOf s t .state .waking ≡ s .waking
 step-stays s t = go (step-is s t)
   where
-    go : Step-is s t → Stays s (stepOf s t .state)
+    go : Step-is s t → stepOf s t .state .waking ≡ s .waking
     go (moves m q) = rw q (tick-stays s (tickOf s))
-    go (stays r q) = rw q (record { waking-stays = refl; sleep-stays = refl })
+    go (stays r q) = rw q
 
-next-stays : (p : Past) (call : Call) → Stays (p .state) (next p call .state)
+next-stays : (p : Past) (call : Call) → next p call .state .waking ≡ p .state .waking
 unfolding next
 next-stays p (release task demand) = go (releaseAnswer (p .state) task demand) refl
   where
-    go : (a : Answer) → releaseAnswer (p .state) task demand ≡ a → Stays (p .state) (next p (release task demand) .state)
-    go Accepted q = rw q (record { waking-stays = refl; sleep-stays = refl })
-    go (Refused r) q = rw q (record { waking-stays = refl; sleep-stays = refl })
+    go : (a : Answer) → releaseAnswer (p .state) task demand ≡ a → next p (release task demand) .state .waking ≡ p .state .waking
+    go Accepted q = rw q
+    go (Refused r) q = rw q
 next-stays p step = step-stays (p .state) (p .tally)
 next-stays p (lend t) = step-stays (p .state) t
 
-pub after-stays : (p : Past) (calls : List Call) → Stays (p .state) (after p calls .state)
-after-stays p calls = folded-keeps (λ (q : Past). Stays (p .state) (q .state)) next
-    (λ q call S.
-    let N = next-stays q call in
-    record { waking-stays = N .waking-stays ∙ S .waking-stays; sleep-stays = N .sleep-stays ∙ S .sleep-stays })
-    p calls (record { waking-stays = refl; sleep-stays = refl })
+pub after-stays : (p : Past) (calls : List Call) → after p calls .state .waking ≡ p .state .waking
+after-stays p calls = folded-keeps (λ (q : Past). q .state .waking ≡ p .state .waking) next (λ q call e. next-stays q call ∙ e) p calls refl
 
 -- What a step that answers a tick leaves in the tally.
 pub tick-counts : (s : State) (t : Tally) (tick : Tick) → stepOf s t .answer ≡ ticked.Tick tick → stepOf s t .tally ≡ raised t (countOf (headOf s) tick)
-tick-counts s t tick e = go (step-is s t)
-  where
-    go : Step-is s t → stepOf s t .tally ≡ raised t (countOf (headOf s) tick)
-    go (moves m q) =
-        let w : ticked.Tick (tickOf s) ≡ ticked.Tick tick = sym (ap {A = Moved} (λ m. m .answer) q) ∙ e in
-        let same : tickOf s ≡ tick = cc in
-        ap {A = Moved} (λ m. m .tally) q ∙ ap (λ (k : Tick). raised t (countOf (headOf s) k)) same
-    go (stays r q) =
-        let w : ticked.Refused r ≡ ticked.Tick tick = sym (ap {A = Moved} (λ m. m .answer) q) ∙ e in
-        let z : _≡_ {A = ℕ} 0 1 = cc in absurd (let y : ⊥ = omega arith in y)
+tick-counts s t tick e =
+    let k = step-ticks-exactly s t tick .0 e in
+    ap {A = Moved} (λ m. m .tally) (step-made s t (k .0 .lawful-state) (k .0 .counted) (k .1)) ∙ ap (λ (x : Tick). raised t (countOf (headOf s) x)) (k .2)
 
 -- With V = 0 no tick raises the waking count.
 record None-waking (p : Past) : Type 0 where
@@ -201,7 +187,7 @@ none-step s t z c = go (step-is s t)
 
 none-next : (p : Past) (call : Call) → None-waking p → None-waking (next p call)
 unfolding next
-none-next p call N = record { zero-length = next-stays p call .waking-stays ∙ N .zero-length; none-counted = go call }
+none-next p call N = record { zero-length = next-stays p call ∙ N .zero-length; none-counted = go call }
   where
     go : (c : Call) → next p c .tally .waking ≡ 0
     go (release task demand) = N .none-counted

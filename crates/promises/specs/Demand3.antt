@@ -7,7 +7,7 @@
 -- count from 0: the task at place i is task i + 1. A start may have been refused, as it is where V is above S: then
 -- nothing moves, and only what says that something happens asks for an accepted one.
 use Prim.Native.Nat.{ℕ, suc, _+_, _-_, _≤_, _<_}
-use mathlib.Core.Path.{_≡_, refl, sym, ap, subst, _∙_}
+use mathlib.Core.Path.{_≡_, refl, sym, subst, _∙_}
 use mathlib.Core.Logic.{⊎-elim}
 use mathlib.Core.List.{List}
 use native.Mathlib.Omega.{arith}
@@ -18,7 +18,7 @@ use Rattle.base.proofs.ListLaws.{each-says}
 use Rattle.theory.specs.Rounds.{Window, Overrun}
 use Rattle.theory.specs.Pattern.{offset}
 use Rattle.theory.specs.Boundary.{boundary}
-use Rattle.table.specs.declared.Refusal.the-variants.{NoWindow, Unfit}
+use Rattle.table.specs.declared.Refusal.the-variants.{NoWindow}
 use Rattle.table.specs.declared.Reading.{Reading}
 use Rattle.table.specs.declared.Reading.the-variants as read
 use Rattle.table.specs.Bytes.{recordAt}
@@ -37,7 +37,6 @@ use Rattle.decisions.specs.declared.Tally.{Tally}
 use Rattle.decisions.specs.declared.Tick.{Tick}
 use Rattle.decisions.specs.declared.Tick.the-variants.{Run, Tail}
 use Rattle.scheduler.specs.declared.Ticked.the-variants as ticked
-use Rattle.scheduler.specs.declared.Moved.{Moved}
 use Rattle.decisions.specs.Fits.{clockEnd, noEntry}
 use Rattle.scheduler.specs.States.{entryIn}
 use Rattle.scheduler.specs.Starts.{Given, readGiven, freshState, startOf, Is-started}
@@ -47,7 +46,7 @@ use Rattle.histories.specs.Jobs.{finishAt, Finished, done, going, Followed, Was
 use Rattle.histories.specs.Pattern.{worstPattern}
 use Rattle.scheduler.proofs.PlaceLaws.{Sized}
 use Rattle.scheduler.proofs.GivenLaws.{given-says, startable-given, started-reads, given-set}
-use Rattle.histories.proofs.StillLaws.{Still, started-or-still, still-rests, no-step}
+use Rattle.histories.proofs.StillLaws.{started-or-still, still-idle, still-released, still-ticks}
 use Rattle.histories.proofs.JobLaws.{history-followed}
 use Rattle.histories.proofs.TakenLaws.{history-sourced}
 use Rattle.bridge.specs.Moves.{beyond-rests}
@@ -146,22 +145,6 @@ pub any-state-rests : (s : State) (t u : Tally) (k : ℕ) (p : Past) (between : 
     → boundary (s .sleep .period) (s .clock) + s .sleep .work ≤ after p between .state .clock
 any-state-rests = rest.tail-rests
 
--- Where nothing moved no task is at work, no release was accepted, and no step answers a tick.
-still-idle : (g : Given) (calls : List Call) → Still (history g calls) → (i a l : ℕ) → entryIn (history g calls .state) i .job ≡ Working a l → ⊥
-still-idle g calls S i a l q =
-    let w : Resting ≡ Working a l = sym (still-rests i) ∙ rw (S .state-is) at q in
-    let z : _≡_ {A = ℕ} 0 1 = cc in omega arith
-
-still-released : (g : Given) (calls : List Call) (j : Taken) → Still (history g calls) → In j (history g calls .taken) → ⊥
-unfolding In
-still-released g calls j S i = rw (S .none-taken) at i
-
-still-ticks : (g : Given) (calls : List Call) (t : Tally) (tick : Tick) → Still (history g calls) → stepOf (history g calls .state) t .answer ≡ ticked.Tick tick → ⊥
-still-ticks g calls t tick S q =
-    let e : stepOf (history g calls .state) t .answer ≡ ticked.Refused Unfit = rw (S .state-is) (ap {A = Moved} (λ m. m .answer) (no-step t)) in
-    let w : ticked.Refused Unfit ≡ ticked.Tick tick = sym e ∙ q in
-    let z : _≡_ {A = ℕ} 0 1 = cc in omega arith
-
 -- OF EVERY HISTORY these hold, whatever its start was given.
 module _ (g : Given) where
   -- A window of task i alone is enough: a job of it that is unfinished is younger than its figure.
@@ -169,7 +152,7 @@ module _ (g : Given) where
       → entryIn (history g calls .state) i .job ≡ Working a l → history g calls .state .clock < a + figure (rulesOf (g .table)) i w
   one-window-is-enough i w a l calls W j = ⊎-elim
       (λ start. let r = started-reads g start in rw (r .1) (bounds.working-below g (r .0) i w a l calls (r .1) W (rw (r .1) at j)))
-      (λ S. absurd (still-idle g calls S i a l j))
+      (λ S. absurd (still-idle (history g calls) S i a l j))
       (started-or-still g calls)
 
   -- Every accepted release is followed: after any calls its job is among the finishes, at a clock after the release, or
@@ -180,7 +163,7 @@ module _ (g : Given) where
       let r = started-reads g start in
       let fresh : startOf g .state ≡ freshState g (r .0) = rw (r .1) in
       subst (λ (s : State). In j (after (begun s) calls .taken) → Followed (after (begun s) calls) j) (sym fresh) (history-followed g (r .0) calls j (r .1)) i)
-      (λ S. absurd (still-released g calls j S i))
+      (λ S. absurd (still-released (history g calls) S j i))
       (started-or-still g calls)
 
   -- No job is left out of the accepted releases: a job at which a task is at work, and each that has finished, is one of
@@ -189,7 +172,7 @@ module _ (g : Given) where
       → Was-released (history g calls .taken) i a
   every-job-was-released i a l calls li j = ⊎-elim
       (λ start. let r = started-reads g start in rw (r .1) (history-sourced g (r .0) calls (r .1) .working i a l li (rw (r .1) at j)))
-      (λ S. absurd (still-idle g calls S i a l j))
+      (λ S. absurd (still-idle (history g calls) S i a l j))
       (started-or-still g calls)
 
   pub every-finish-was-released : (calls : List Call) (f : Finish) → In f (history g calls .finishes) → Was-released (history g calls .taken) (f .place) (f .release)
@@ -319,7 +302,7 @@ pub demand-3 : (g : Given) (n : ℕ) → Demand-3 g n
 demand-3 g n = record {
   every-job-finishes = λ ok calls j i past. ⊎-elim
       (λ start. finished-by-then g n start ok calls j (every-job-is-followed g calls j i) past)
-      (λ S. absurd (still-released g calls j S i))
+      (λ S. absurd (still-released (history g calls) S j i))
       (started-or-still g calls);
   no-job-is-late = unfinished-is-young g n;
   each-figure-is-reached = figure-finishes g n;
@@ -330,6 +313,6 @@ demand-3 g n = record {
       let B = runs.history-bridged g (r .0) before (r .1) in
       let sleep : history g before .state .sleep ≡ recordAt (g .table) 0 = rw (r .1) (B .holds .sleep-is) in
       rw (← sleep) (any-state-rests (history g before .state) t u k p between (rw (r .1) (B .sized)) tail from run))
-      (λ S. absurd (still-ticks g before t Tail S tail))
+      (λ S. absurd (still-ticks (history g before) S t Tail tail))
       (started-or-still g before);
 }

@@ -29,7 +29,7 @@ use Rattle.scheduler.specs.Steps.{stepOf}
 use Rattle.histories.specs.History.{Call, release, step, Own, next, history}
 use Rattle.histories.specs.Pattern.{dueAt, releasesAt, worstPattern}
 use Rattle.promises.specs.Cases.{bytesOf}
-use Rattle.promises.specs.Uses.{house, house-starts, long-waking}
+use Rattle.promises.specs.Uses.{house, house-starts, eight, long-waking}
 use Rattle.promises.specs.Waking.{given, Nothing-else, waking}
 
 -- `forty` is the house table's worst pattern up to tick 40, and `counted` a tally.
@@ -70,9 +70,6 @@ five = step ∷ step ∷ step ∷ step ∷ step ∷ []
 six : List Call
 six = five ++ step ∷ []
 
-eight : List Call
-eight = six ++ step ∷ step ∷ []
-
 tick-5 : stepOf (history house five .state) (history house five .tally) .tally ≡ counted 0 6 0 0
 unfolding five house bytesOf wordAt recordAt firstFrom askRecords askOrder askSleep readOf readGiven every recordIn periodBefore stateFits entriesOf stepOf next folded
 tick-5 = waking .each-tick-is-counted (history house five .state) (history house five .tally) .slot-counts refl (omega arith)
@@ -82,11 +79,11 @@ unfolding six five house bytesOf wordAt recordAt firstFrom askRecords askOrder a
 tick-6 = waking .each-tick-is-counted (history house six .state) (history house six .tally) .waking-counts refl (omega arith)
 
 tick-8 : stepOf (history house eight .state) (history house eight .tally) .tally ≡ counted 0 6 1 2
-unfolding eight six five house bytesOf wordAt recordAt firstFrom askRecords askOrder askSleep readOf readGiven ceil ready every recordIn periodBefore stateFits entriesOf stepOf next folded
+unfolding eight house bytesOf wordAt recordAt firstFrom askRecords askOrder askSleep readOf readGiven ceil ready every recordIn periodBefore stateFits entriesOf stepOf next folded
 tick-8 = waking .each-tick-is-counted (history house eight .state) (history house eight .tally) .tail-counts refl
 
 run-8 : let p = history house (release 1 2 ∷ eight) in stepOf (p .state) (p .tally) .tally ≡ counted 1 6 0 2
-unfolding eight six five house bytesOf wordAt recordAt firstFrom askRecords askOrder askSleep readOf readGiven ceil ready every recordIn periodBefore stateFits entriesOf stepOf next folded releaseTime askDemand askTask mayRelease releaseAnswer
+unfolding eight house bytesOf wordAt recordAt firstFrom askRecords askOrder askSleep readOf readGiven ceil ready every recordIn periodBefore stateFits entriesOf stepOf next folded releaseTime askDemand askTask mayRelease releaseAnswer
 run-8 = waking .each-tick-is-counted (history house (release 1 2 ∷ eight) .state) (history house (release 1 2 ∷ eight) .tally) .run-counts 1 refl
 
 -- The first period, of 20 ticks, counts 6 as slot and 2 as waking.

@@ -105,7 +105,7 @@ figure-1-starts : Is-started figure-1
 figure-1-starts = rw figure-1-sound
 
 -- With nothing released, tick 8 of the house table is a tail tick.
-eight : List Call
+unfoldable pub eight : List Call
 eight = step ∷ step ∷ step ∷ step ∷ step ∷ step ∷ step ∷ step ∷ []
 
 house-tail : (stepOf (history house eight .state) (history house eight .tally) .answer ≡ ticked.Tick Tail) × (history house eight .state .clock ≡ 8)

@@ -18,7 +18,6 @@ use Rattle.table.specs.Sound.{readOf}
 use Rattle.table.proofs.LowestLaws.{number}
 use Rattle.decisions.specs.declared.Tally.{Tally}
 use Rattle.decisions.specs.declared.Tick.the-variants.{Run, Slot, Tail}
-use Rattle.decisions.specs.declared.Answer.{Answer}
 use Rattle.decisions.specs.declared.Answer.the-variants.{Accepted, Refused}
 use Rattle.decisions.specs.Fits.{clockEnd, total}
 use Rattle.decisions.specs.Energies.{powerMost, energyIn, energyOf}
@@ -27,9 +26,10 @@ use Rattle.scheduler.specs.declared.Ticked.the-variants as ticked
 use Rattle.scheduler.specs.Starts.{Given, readGiven, freshState, startOf, Is-started}
 use Rattle.scheduler.specs.States.{withWaking}
 use Rattle.scheduler.specs.Lawful.{Lawful-state}
-use Rattle.scheduler.specs.Releases.{releaseAnswer, releasedFrom, releaseOf}
+use Rattle.scheduler.specs.Releases.{releaseAnswer, releaseOf}
 use Rattle.scheduler.specs.Steps.{stepOf}
 use Rattle.scheduler.proofs.AnswerLaws as laws
+use Rattle.scheduler.proofs.ReleaseLaws.{release-answer}
 use Rattle.scheduler.proofs.GivenLaws.{given-says, given-startable, startable-given, started-reads}
 use Rattle.histories.specs.History.{Call, Own, Past, after, begun, history}
 use Rattle.histories.specs.Waking.{withSplit, Split-alone, Whole-periods}
@@ -103,14 +103,6 @@ pub record Waking : Type 0 where
   pub joins-thirteen : (t : Tally) (run sleep waking : ℕ) → t .run + t .slot + t .tail + t .waking ≤ clockEnd → powerMost < waking
       → energyOf t run sleep waking .answer ≡ Refused Power
 
--- A release is answered as it is tested.
-release-answers : (s : State) (task demand : ℕ) → releaseOf s task demand .answer ≡ releaseAnswer s task demand
-release-answers s task demand = go (releaseAnswer s task demand)
-  where
-    go : (a : Answer) → releasedFrom s task demand a .answer ≡ a
-    go Accepted = refl
-    go (Refused r) = refl
-
 -- Two histories on one table with the same calls go the same way.
 module _ (table : List ℕ) (v w n : ℕ) (calls : List Call) (e : readGiven (given table v) ≡ read.Sound n) (f : readGiven (given table w) ≡ read.Sound n) where
   abbrev p : Past
@@ -137,10 +129,10 @@ module _ (table : List ℕ) (v w n : ℕ) (calls : List Call) (e : readGiven (gi
     all-but-the-split = rw (e, f) (G .same);
     the-split-alone = rw (e, f) (G .split);
     releases-alike = λ task demand. rw (e, f)
-        (release-answers (q .state) task demand
+        (release-answer (q .state) task demand
         ∙ ap (λ (s : State). releaseAnswer s task demand) states
         ∙ release-same (p .state) w task demand L M
-        ∙ sym (release-answers (p .state) task demand));
+        ∙ sym (release-answer (p .state) task demand));
     steps-alike = rw (e, f)
         (ap (λ (s : State). stepOf s (q .tally) .answer) states
         ∙ steps-same (p .state) w (p .tally) (q .tally) L M (total-same (p .tally) (q .tally) (G .split)) .answer-same);
@@ -214,7 +206,7 @@ waking = record {
   together-as-before = λ g calls ok.
       let N = alike (g .table) (g .waking) 0 calls ok (zero-starts g ok) in
       omega (arith, N .the-split-alone .slots-same, none (g .table) calls);
-  kept-in-the-state = λ g calls ok. let r = started-reads g ok in rw (r .1) (after-stays (begun (freshState g (r .0))) calls .waking-stays);
+  kept-in-the-state = λ g calls ok. let r = started-reads g ok in rw (r .1) (after-stays (begun (freshState g (r .0))) calls);
   after-four = λ g r e. rw e;
   six-in-a-state = λ s t task demand l. (
     release-gets-6 s task demand .1 (λ L. omega (arith, L .waking-fits)),

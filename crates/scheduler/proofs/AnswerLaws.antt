@@ -37,13 +37,13 @@ use Rattle.scheduler.specs.States.{headOf, entryIn, stateFits}
 use Rattle.scheduler.specs.Lawful.{Lawful-state}
 use Rattle.scheduler.specs.Starts.{Given, noState, startOf}
 use Rattle.decisions.specs.Asks.{working, early, askSpacing, askTime, askDemand, askTask, mayRelease, mayStep}
-use Rattle.scheduler.specs.Releases.{releaseAnswer, releasedFrom, releaseOf}
+use Rattle.scheduler.specs.Releases.{releaseAnswer, releaseOf}
 use Rattle.scheduler.specs.Steps.{tickOf, stepFrom, stepOf}
 use Rattle.decisions.specs.Energies.{powerMost, energyIn, energyOf}
 use Rattle.scheduler.specs.Applies.{Start-applies, Startable, Release-applies, Releasable, Rules-kept, Step-applies, Energy-applies}
 use Rattle.scheduler.specs.Fresh.{Fresh}
 use Rattle.scheduler.proofs.StateLaws.{fits-says, says-fits}
-use Rattle.scheduler.proofs.ReleaseLaws.{accepted-says, says-accepted, refused-not}
+use Rattle.scheduler.proofs.ReleaseLaws.{release-answer, accepted-says, says-accepted, refused-not}
 use Rattle.scheduler.proofs.StepLaws.{Step-is, moves, stays, step-is, step-made}
 use Rattle.scheduler.proofs.GivenLaws.{Start-is, unsound, long, starts, start-is, given-startable, startable-given, started-reads}
 use Rattle.scheduler.proofs.StartLaws.{fresh-record, fresh-rests, fresh-lawful}
@@ -163,14 +163,6 @@ release-says s task demand =
     (working-test (x .job)) b10 (λ e11 b11.
     when C refusal.Early refl (early (x .last) (x .task .period) (s .clock)) Accepted (early-test (x .last) (x .task .period) (s .clock)) b11 (λ e12 b12.
     past C b12)))))))
-
--- The answer that a release hands back is `releaseAnswer`.
-release-answer : (s : State) (task demand : ℕ) → releaseOf s task demand .answer ≡ releaseAnswer s task demand
-release-answer s task demand = go (releaseAnswer s task demand)
-  where
-    go : (a : Answer) → releasedFrom s task demand a .answer ≡ a
-    go Accepted = refl
-    go (Refused r) = refl
 
 -- A RELEASE IS REFUSED exactly with the lowest number that applies.
 pub release-refused-exactly : (s : State) (task demand : ℕ) (r : Refusal) → (releaseOf s task demand .answer ≡ Refused r) ↔ Lowest (Release-applies s task demand) r

@@ -20,9 +20,10 @@ use Rattle.decisions.specs.declared.EnergyReading.{EnergyReading}
 use Rattle.decisions.specs.Fits.{clockEnd, total, tallyFits}
 use Rattle.scheduler.specs.States.{headOf, entryIn, stateFits}
 use Rattle.decisions.specs.Asks.{working, early, askSpacing, askTime, askDemand, askTask, mayRelease, mayStep}
-use Rattle.scheduler.specs.Releases.{releaseAnswer, releasedFrom, releaseOf}
+use Rattle.scheduler.specs.Releases.{releaseAnswer, releaseOf}
 use Rattle.scheduler.specs.Steps.{tickOf, stepOf}
 use Rattle.decisions.specs.Energies.{powerMost, energyIn, energyOf}
+use Rattle.scheduler.proofs.ReleaseLaws.{release-answer}
 
 -- An answer is accepted, or refused with a refusal that the call gives.
 abbrev Gives : (Refusal → Bool) → Answer → Type 0
@@ -36,17 +37,13 @@ given-by gives a r g e = rw e at g
 -- A RELEASE gives no refusals but those of `releaseGives`.
 pub release-gives : (s : State) (task demand : ℕ) (r : Refusal) → releaseOf s task demand .answer ≡ Refused r → releaseGives r ≡ true
 unfolding releaseAnswer mayRelease askTask askDemand
-release-gives s task demand r e = given-by releaseGives (releaseAnswer s task demand) r tests (sym (answer-is (releaseAnswer s task demand)) ∙ e)
+release-gives s task demand r e = given-by releaseGives (releaseAnswer s task demand) r tests (sym (release-answer s task demand) ∙ e)
   where
     h : Head
     h = headOf s
 
     x : Entry
     x = entryIn s (task - 1)
-
-    answer-is : (a : Answer) → releasedFrom s task demand a .answer ≡ a
-    answer-is Accepted = refl
-    answer-is (Refused f) = refl
 
     G : Answer → Type 0
     G = Gives releaseGives

@@ -21,7 +21,7 @@ use Rattle.decisions.specs.Fits.{clockEnd}
 use Rattle.scheduler.specs.States.{headOf, entryIn, stateFits}
 use Rattle.scheduler.specs.Lawful.{Lawful-state}
 use Rattle.decisions.specs.Asks.{working, early, askSpacing, askTime, askDemand, askTask, mayRelease}
-use Rattle.scheduler.specs.Releases.{releaseAnswer, releasedEntry, releasedState, releaseOf}
+use Rattle.scheduler.specs.Releases.{releasedFrom, releaseAnswer, releasedEntry, releasedState, releaseOf}
 use Rattle.scheduler.proofs.StateLaws.{fits-says, says-fits}
 use Rattle.scheduler.proofs.PlaceLaws.{Sized, Keeps, set-place}
 
@@ -37,6 +37,14 @@ pub record Free-task (s : State) (task demand : ℕ) : Type 0 where
   pub on-time : releaseTime (s .sleep .period) (task - 1) (s .clock) ≡ true
   pub resting : entryIn s (task - 1) .job ≡ Resting
   pub spaced : (a : ℕ) → entryIn s (task - 1) .last ≡ At a → a + entryIn s (task - 1) .task .period ≤ s .clock
+
+-- The answer that a release hands back is `releaseAnswer`.
+pub release-answer : (s : State) (task demand : ℕ) → releaseOf s task demand .answer ≡ releaseAnswer s task demand
+release-answer s task demand = go (releaseAnswer s task demand)
+  where
+    go : (a : Answer) → releasedFrom s task demand a .answer ≡ a
+    go Accepted = refl
+    go (Refused r) = refl
 
 -- A refused answer is not the accepted one.
 pub refused-not : (r : Refusal) → Refused r ≡ Accepted → ⊥
