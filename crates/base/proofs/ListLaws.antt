@@ -1,11 +1,11 @@
 -- A list by index has at each index what was asked for, and every list is such a list: two lists are equal where their
 -- lengths and their elements are.
-use Prim.Native.Nat.{ℕ, zero, suc, ◌+◌, ◌≤◌, ◌<◌}
+use Prim.Native.Nat.{ℕ, zero, suc, ◌+◌, ◌<◌}
 use mathlib.Core.Path.{◌≡◌, refl, ap, sym, ◌∙◌}
 use mathlib.Core.Logic.{inl, inr}
 use mathlib.Core.List.{List, [], ◌∷◌, ◌++◌}
 use native.Mathlib.Omega.{arith}
-use lib.ListN.{length, get_or, set, length-append, get_or-append}
+use lib.ListN.{length, get_or, length-append, get_or-append}
 use lib.Seq.{get_or-append_seam, ext_get_or}
 use Rattle.base.specs.List.{list_from, Each, In}
 use Rattle.base.proofs.Split.{by_eq}
@@ -45,9 +45,3 @@ unfolding Each In
 each_says P x [] e i = absurd i
 each_says P x (y ∷ ys) e (inl q) = rw q e.0
 each_says P x (y ∷ ys) e (inr i) = each_says P x ys e.1 i
-
--- A place that a list does not have can't be set.
-pub set_beyond : {A : Type 0} (l : List A) (i : ℕ) (a : A) → length l ≤ i → set l i a ≡ l
-set_beyond [] i a h = refl
-set_beyond (x ∷ l) zero a h = absurd (let z : ⊥ = omega arith in z)
-set_beyond (x ∷ l) (suc i) a h = ap (λ r. x ∷ r) (set_beyond l i a (omega arith))

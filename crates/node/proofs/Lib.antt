@@ -4,8 +4,6 @@ pub mod WordLaws
 pub mod LayoutLaws
 -- These laws take the calls on words by their cases.
 pub mod CallLaws
--- These laws take the calls with a log by their cases.
-pub mod LogLaws
 -- This law says that energy has room above a number.
 pub mod EnergyLaws
 -- What is saved is read back, and histories go on from it.

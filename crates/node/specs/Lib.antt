@@ -4,7 +4,5 @@ pub mod Words
 pub mod Layout
 -- This module says what each call gives on any words.
 pub mod Calls
--- This module says what the calls with a log give on any words.
-pub mod Logs
 -- This module has a state saved and restored.
 pub mod Saved

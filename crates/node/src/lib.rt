@@ -12,28 +12,23 @@ ghost use Rattle.scheduler.specs.Releases.{released_state};
 ghost use Rattle.decisions.specs.Ticks.{came, worked_of};
 ghost use Rattle.scheduler.specs.Steps.{tick_of, after_tick, raised};
 ghost use Rattle.node.specs.Words.{puts};
-ghost use Rattle.node.specs.Layout.{Room, label_at, job_at, release_at, left_at, last_at, tick_at, clock_at, state_size, tally_size, verdict_size, record_words, job_words, last_words, entry_words, state_words, tally_words, by_place, verdict_words, word_in, record_from, job_from, last_from, entry_from, entries_in, state_in, tally_in, any_word, kind_encoded, place_encoded, encoded};
-ghost use Rattle.node.specs.Logs.{writer_size, full_word, writer_words, writer_in, writer_encoded, brings as bringsOf, note_on, start_log, release_log, ticked_on, happened_on, RunsPlaced, step_log, check_on};
-ghost use Rattle.node.specs.Calls.{packed, told_answer, unfit_answer, after_unfit, tick_answer, ticked_answer, admit_on, start_on, release_on, step_on, energy_on, Headed, words_fit, place_fits_in, places_fit_in, spares_blank};
+ghost use Rattle.node.specs.Layout.{Room, label_at, job_at, release_at, left_at, last_at, tick_at, state_size, tally_size, verdict_size, record_words, job_words, last_words, entry_words, state_words, tally_words, by_place, verdict_words, word_in, record_from, job_from, last_from, entry_from, entries_in, state_in, tally_in, any_word, kind_encoded, place_encoded, encoded};
+ghost use Rattle.node.specs.Calls.{packed, told_answer, unfit_answer, after_unfit, tick_answer, admit_on, start_on, release_on, step_on, energy_on, Headed, words_fit, place_fits_in, places_fit_in, spares_blank};
 
 use admission::{Verdict, admit};
 use decisions::{
     Answer, Count, Entry, Head, Job, Last, Tally, Tick, came_by, count_of, energy, head_fits,
     in_slot, last_boundary, may_release, may_step, place_fits, run_or_tail, worked,
 };
-use log::{Checked, Happening, Writer, begin, check, note};
-use logged::ended_by;
-use scheduler::{State, Ticked, start};
+use scheduler::{State, start};
 use table::{MOST_TASKS, PLACES, Record, Refusal, no_window, tell};
 
-// These say how many words a state, a tally, a verdict and a writer have.
+// These say how many words a state, a tally and a verdict have.
 pub const STATE_WORDS: usize = 151;
 
 pub const TALLY_WORDS: usize = 4;
 
 pub const VERDICT_WORDS: usize = 48;
-
-pub const WRITER_WORDS: usize = 4;
 
 // These say how many words a state has before its first place, and how many a place has.
 const HEAD_WORDS: usize = 7;
@@ -74,21 +69,6 @@ const SLOT_AT: usize = 1;
 const TAIL_AT: usize = 2;
 
 const WAKINGS_AT: usize = 3;
-
-// These say where the bytes written stand in a writer's words, low and high, the clock of the last
-// record, and the log's own refusal.
-const WRITTEN_AT: usize = 0;
-
-const WRITTEN_HIGH_AT: usize = 1;
-
-const LAST_RECORD_AT: usize = 2;
-
-const FULL_AT: usize = 3;
-
-const HIGH_WORD: usize = 4294967296;
-
-// An answer tells 56 bits of a record's number: no machine has room for more records.
-const RECORDS_TOLD: usize = 72057594037927936;
 
 // `node_admit` is the admission test. The verdict is written where the set is admitted or a task
 // has no window.
@@ -181,8 +161,23 @@ pub extern "C" fn node_step(state: &mut [u32], tally: &mut [u32]) -> u64
         × (state.new ≡ (step_on state.old tally.old).state)
         × (tally.new ≡ (step_on state.old tally.old).tally) }
 {
-    let ticked = step_in(state, tally);
-    ticked_answer(ticked)
+    if tally.len() != TALLY_WORDS {
+        return unfit();
+    }
+    if state.len() != STATE_WORDS {
+        return unfit();
+    }
+    let head = head_in(state);
+    let answer = may_step(fits_in(state, head), tally_in(tally), head.clock);
+    match answer {
+        Answer::Refused(refusal) => refused(refusal),
+        Answer::Accepted => {
+            let tick = tick_in(state, head);
+            move_on(state, head, tick);
+            raise(tally, count_of(head, tick));
+            tick_answer(tick)
+        }
+    }
 }
 
 // `node_energy` gives the energy of a tally.
@@ -199,95 +194,6 @@ pub extern "C" fn node_energy(tally: &[u32], run: u32, sleep: u32, waking: u32) 
     match answer {
         Answer::Accepted => 256 * reading.nanojoules,
         Answer::Refused(refusal) => refused(refusal),
-    }
-}
-
-// `node_log_start` is `node_start` with a log: where the start is accepted the opening mark is written,
-// and the writer's words whole.
-#[unsafe(no_mangle)]
-pub extern "C" fn node_log_start(
-    table: &[u8],
-    waking: u32,
-    state: &mut [u32],
-    writer: &mut [u32],
-    log: &mut [u8],
-) -> u64
-    ensures { (result ≡ (start_on (record { table = table.entry.now; waking = waking }) state.old).answer)
-        × (state.new ≡ (start_on (record { table = table.entry.now; waking = waking }) state.old).state)
-        × (writer.new ≡ (start_log (record { table = table.entry.now; waking = waking }) state.old writer.old log.old).writer)
-        × (log.new ≡ (start_log (record { table = table.entry.now; waking = waking }) state.old writer.old log.old).log) }
-{
-    let answer = node_start(table, waking, state);
-    if answer != 0 {
-        return answer;
-    }
-    if writer.len() != WRITER_WORDS {
-        return answer;
-    }
-    let begun = begin(log);
-    put_writer(writer, begun.writer);
-    answer
-}
-
-// `node_log_release` is `node_release` with a log: an accepted release is noted.
-#[unsafe(no_mangle)]
-pub extern "C" fn node_log_release(
-    state: &mut [u32],
-    writer: &mut [u32],
-    log: &mut [u8],
-    task: u32,
-    demand: u32,
-) -> u64
-    ensures { (result ≡ (release_on state.old task demand).answer)
-        × (state.new ≡ (release_on state.old task demand).state)
-        × (writer.new ≡ (release_log state.old writer.old log.old task demand).writer)
-        × (log.new ≡ (release_log state.old writer.old log.old task demand).log) }
-{
-    let answer = node_release(state, task, demand);
-    if answer != 0 {
-        return answer;
-    }
-    let what = Happening::Released {
-        task: task,
-        demand: demand,
-    };
-    note_in(writer, log, clock_in(state), what);
-    answer
-}
-
-// `node_log_step` is `node_step` with a log: a finish is noted with its response, and a mark is put
-// where it is due.
-#[unsafe(no_mangle)]
-pub extern "C" fn node_log_step(
-    state: &mut [u32],
-    tally: &mut [u32],
-    writer: &mut [u32],
-    log: &mut [u8],
-) -> u64
-    ensures { (result ≡ (step_on state.old tally.old).answer)
-        × (state.new ≡ (step_on state.old tally.old).state)
-        × (tally.new ≡ (step_on state.old tally.old).tally)
-        × (writer.new ≡ (step_log state.old tally.old writer.old log.old).writer)
-        × (log.new ≡ (step_log state.old tally.old writer.old log.old).log) }
-{
-    let ticked = step_in(state, tally);
-    let what = happened_in(state, ticked);
-    note_in(writer, log, clock_in(state), what);
-    ticked_answer(ticked)
-}
-
-// `node_log_check` reads a whole log.
-#[unsafe(no_mangle)]
-pub extern "C" fn node_log_check(log: &[u8]) -> u64
-    ensures { result ≡ check_on log.now }
-{
-    let checked = check(log);
-    match checked {
-        Checked::Lawful { records: _, clock } => 256 * clock as u64,
-        Checked::Refused { refusal, record } => {
-            let told = tell(refusal);
-            told.number as u64 + 256 * (record % RECORDS_TOLD) as u64
-        }
     }
 }
 
@@ -323,16 +229,6 @@ fn tick_answer(tick: Tick) -> u64
         Tick::Run(task) => answer_of(0, 0, task),
         Tick::Slot => answer_of(0, 1, 0),
         Tick::Tail => answer_of(0, 2, 0),
-    }
-}
-
-// `ticked_answer` tells what a step answered.
-fn ticked_answer(ticked: Ticked) -> u64
-    ensures { result ≡ ticked_answer ticked }
-{
-    match ticked {
-        Ticked::Tick(tick) => tick_answer(tick),
-        Ticked::Refused(refusal) => refused(refusal),
     }
 }
 
@@ -580,31 +476,6 @@ fn tally_in(tally: &[u32]) -> Tally
     }
 }
 
-// `step_in` makes one tick where the words stand, and gives it, or its refusal.
-fn step_in(state: &mut [u32], tally: &mut [u32]) -> Ticked
-    ensures { (result ≡ ticked_on state.old tally.old)
-        × (state.new ≡ (step_on state.old tally.old).state)
-        × (tally.new ≡ (step_on state.old tally.old).tally) }
-{
-    if tally.len() != TALLY_WORDS {
-        return Ticked::Refused(Refusal::Unfit);
-    }
-    if state.len() != STATE_WORDS {
-        return Ticked::Refused(Refusal::Unfit);
-    }
-    let head = head_in(state);
-    let answer = may_step(fits_in(state, head), tally_in(tally), head.clock);
-    match answer {
-        Answer::Refused(refusal) => Ticked::Refused(refusal),
-        Answer::Accepted => {
-            let tick = tick_in(state, head);
-            move_on(state, head, tick);
-            raise(tally, count_of(head, tick));
-            Ticked::Tick(tick)
-        }
-    }
-}
-
 // `tick_in` tells what the next tick of a state that keeps its rules is.
 fn tick_in(state: &[u32], head: Head) -> Tick
     requires { Headed state.now head × (words_fit state.now ≡ true) }
@@ -801,109 +672,4 @@ fn put_last_words(out: &mut [u32], at: usize, kind: u32, tick: u32)
 {
     out[at + LAST_AT] = kind;
     out[at + TICK_AT] = tick;
-}
-
-// `clock_in` reads the clock of a state, 0 where there is no such word.
-fn clock_in(state: &[u32]) -> u32
-    ensures { result ≡ word_in state.now clock_at }
-{
-    if state.len() <= CLOCK_AT {
-        return 0;
-    }
-    state[CLOCK_AT]
-}
-
-// `happened_in` is what a step brings, from its answer and the words that it left.
-fn happened_in(state: &[u32], ticked: Ticked) -> Happening
-    requires { RunsPlaced state.now ticked }
-    ensures { result ≡ happened_on state.now ticked }
-{
-    match ticked {
-        Ticked::Tick(tick) => match tick {
-            Tick::Run(task) => {
-                let at = HEAD_WORDS + PLACE_WORDS * (task - 1) as usize;
-                ended_by(task, clock_in(state), job_in(state, at), last_in(state, at))
-            }
-            Tick::Slot => Happening::Passed,
-            Tick::Tail => Happening::Passed,
-        },
-        Ticked::Refused(_) => Happening::Nothing,
-    }
-}
-
-// `note_in` notes what happened where the words encode a writer; a refused call brings nothing.
-fn note_in(writer: &mut [u32], log: &mut [u8], clock: u32, what: Happening)
-    ensures { (writer.new ≡ (note_on writer.old log.old clock what).writer)
-        × (log.new ≡ (note_on writer.old log.old clock what).log) }
-{
-    if !brings(what) {
-        return;
-    }
-    if !writer_encoded(writer) {
-        return;
-    }
-    let w = writer_in(writer);
-    let written = note(w, log, clock, what);
-    put_writer(writer, written.writer);
-}
-
-fn brings(what: Happening) -> bool
-    ensures { result ≡ bringsOf what }
-{
-    match what {
-        Happening::Nothing => false,
-        Happening::Released { task: _, demand: _ } => true,
-        Happening::Finished {
-            task: _,
-            response: _,
-        } => true,
-        Happening::Passed => true,
-    }
-}
-
-// `writer_encoded` tells whether words encode a writer.
-fn writer_encoded(words: &[u32]) -> bool
-    ensures { result ≡ writer_encoded words.now }
-{
-    if words.len() != WRITER_WORDS {
-        return false;
-    }
-    let full = words[FULL_AT];
-    if full == 0 {
-        return true;
-    }
-    full == full_word(true)
-}
-
-fn writer_in(words: &[u32]) -> Writer
-    requires { length words.now ≡ writer_size }
-    ensures { result ≡ writer_in words.now }
-{
-    Writer {
-        written: words[WRITTEN_AT] as usize + HIGH_WORD * words[WRITTEN_HIGH_AT] as usize,
-        last: words[LAST_RECORD_AT],
-        full: words[FULL_AT] != 0,
-    }
-}
-
-fn put_writer(out: &mut [u32], w: Writer)
-    requires { length out.old ≡ writer_size }
-    ensures { out.new ≡ writer_words w }
-{
-    out[WRITTEN_AT] = (w.written % HIGH_WORD) as u32;
-    out[WRITTEN_HIGH_AT] = (w.written / HIGH_WORD) as u32;
-    out[LAST_RECORD_AT] = w.last;
-    out[FULL_AT] = full_word(w.full);
-}
-
-// `full_word` is the log's own refusal: 0, or the number 15 once a record found no place.
-fn full_word(full: bool) -> u32
-    ensures { result ≡ full_word full }
-{
-    if full {
-        let told = tell(Refusal::LogFull);
-        told.number
-    } else {
-        0
-    }
 }

@@ -8,7 +8,7 @@ use Rattle.base.specs.List.{list_from}
 use Rattle.theory.specs.Round.{ceil}
 use Rattle.theory.specs.Rules.{demand}
 use Rattle.theory.specs.Rounds.{rounds, outcome}
-use Rattle.table.specs.declared.Refusal.TheVariants.{Length, Broken, Falling, Sleep, NoWindow, Unfit, ClockEnd, NoTask, Demand, OffBoundary, Working, Early, Power, LongWaking, LogFull, BadLog}
+use Rattle.table.specs.declared.Refusal.TheVariants.{Length, Broken, Falling, Sleep, NoWindow, Unfit, ClockEnd, NoTask, Demand, OffBoundary, Working, Early, Power, LongWaking}
 use Rattle.table.specs.declared.Told.{Told}
 use Rattle.table.specs.Bytes.{word_at, record_at}
 use Rattle.table.specs.Refusals.{told_of, Givers, givers}
@@ -34,8 +34,8 @@ abbrev told : ℕ → ℕ → ℕ → Told
 told number place rounds = record { number = number; place = place; rounds = rounds }
 
 -- The table of RULES 3.1 has these numbers, in its order, with what comes back.
-pub refusals_are_told : told_of Length ∷ told_of (Broken 7) ∷ told_of (Falling 9) ∷ told_of Sleep ∷ told_of (NoWindow 3 40) ∷ told_of Unfit ∷ told_of ClockEnd ∷ told_of NoTask ∷ told_of Demand ∷ told_of OffBoundary ∷ told_of Working ∷ told_of Early ∷ told_of Power ∷ told_of LongWaking ∷ told_of LogFull ∷ told_of BadLog ∷ []
-    ≡ told 1 0 0 ∷ told 2 7 0 ∷ told 3 9 0 ∷ told 4 0 0 ∷ told 5 3 40 ∷ told 6 0 0 ∷ told 7 0 0 ∷ told 8 0 0 ∷ told 9 0 0 ∷ told 10 0 0 ∷ told 11 0 0 ∷ told 12 0 0 ∷ told 13 0 0 ∷ told 14 0 0 ∷ told 15 0 0 ∷ told 16 0 0 ∷ []
+pub refusals_are_told : told_of Length ∷ told_of (Broken 7) ∷ told_of (Falling 9) ∷ told_of Sleep ∷ told_of (NoWindow 3 40) ∷ told_of Unfit ∷ told_of ClockEnd ∷ told_of NoTask ∷ told_of Demand ∷ told_of OffBoundary ∷ told_of Working ∷ told_of Early ∷ told_of Power ∷ told_of LongWaking ∷ []
+    ≡ told 1 0 0 ∷ told 2 7 0 ∷ told 3 9 0 ∷ told 4 0 0 ∷ told 5 3 40 ∷ told 6 0 0 ∷ told 7 0 0 ∷ told 8 0 0 ∷ told 9 0 0 ∷ told 10 0 0 ∷ told 11 0 0 ∷ told 12 0 0 ∷ told 13 0 0 ∷ told 14 0 0 ∷ []
 refusals_are_told = refl
 
 -- An answer has its number in the low byte, the record, task or kind in the next, and rounds or the task that ran above:
@@ -84,36 +84,25 @@ pub limits_are : clock_end ∷ power_most ∷ largest ∷ places ∷ [] ≡ 1000
 limits_are = refl
 
 -- Which parts of the calls give a refusal, in the order of numbers: the reading of a table, the search, a start besides
--- the table, a release, a step, an energy reading, a write into a log, the reading of one (RULES 3.1, last column).
-abbrev gives : Bool → Bool → Bool → Bool → Bool → Bool → Bool → Bool → Givers
-gives reading search start release step energy write trace = record {
-  reading = reading;
-  search = search;
-  start = start;
-  release = release;
-  step = step;
-  energy = energy;
-  write = write;
-  trace = trace;
-}
+-- the table, a release, a step, an energy reading (RULES 3.1, last column).
+abbrev gives : Bool → Bool → Bool → Bool → Bool → Bool → Givers
+gives reading search start release step energy = record { reading = reading; search = search; start = start; release = release; step = step; energy = energy }
 
-pub givers_are : givers Length ∷ givers (Broken 7) ∷ givers (Falling 9) ∷ givers Sleep ∷ givers (NoWindow 3 40) ∷ givers Unfit ∷ givers ClockEnd ∷ givers NoTask ∷ givers Demand ∷ givers OffBoundary ∷ givers Working ∷ givers Early ∷ givers Power ∷ givers LongWaking ∷ givers LogFull ∷ givers BadLog ∷ []
-    ≡ gives true false false false false false false false
-    ∷ gives true false false false false false false false
-    ∷ gives true false false false false false false false
-    ∷ gives true false false false false false false false
-    ∷ gives false true false false false false false false
-    ∷ gives false false false true true true false false
-    ∷ gives false false false true true false false false
-    ∷ gives false false false true false false false false
-    ∷ gives false false false true false false false false
-    ∷ gives false false false true false false false false
-    ∷ gives false false false true false false false false
-    ∷ gives false false false true false false false false
-    ∷ gives false false false false false true false false
-    ∷ gives false false true false false false false false
-    ∷ gives false false false false false false true false
-    ∷ gives false false false false false false false true
+pub givers_are : givers Length ∷ givers (Broken 7) ∷ givers (Falling 9) ∷ givers Sleep ∷ givers (NoWindow 3 40) ∷ givers Unfit ∷ givers ClockEnd ∷ givers NoTask ∷ givers Demand ∷ givers OffBoundary ∷ givers Working ∷ givers Early ∷ givers Power ∷ givers LongWaking ∷ []
+    ≡ gives true false false false false false
+    ∷ gives true false false false false false
+    ∷ gives true false false false false false
+    ∷ gives true false false false false false
+    ∷ gives false true false false false false
+    ∷ gives false false false true true true
+    ∷ gives false false false true true false
+    ∷ gives false false false true false false
+    ∷ gives false false false true false false
+    ∷ gives false false false true false false
+    ∷ gives false false false true false false
+    ∷ gives false false false true false false
+    ∷ gives false false false false false true
+    ∷ gives false false true false false false
     ∷ []
 givers_are = refl
 

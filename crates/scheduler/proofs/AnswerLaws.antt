@@ -142,8 +142,6 @@ release_known s task demand refusal.Working a = (omega arith, omega arith, refl)
 release_known s task demand refusal.Early a = (omega arith, omega arith, refl)
 release_known s task demand refusal.Power a = absurd a
 release_known s task demand refusal.LongWaking a = absurd a
-release_known s task demand refusal.LogFull a = absurd a
-release_known s task demand refusal.BadLog a = absurd a
 
 abbrev release_chain : (s : State) (task demand : ℕ) → Chain (ReleaseApplies s task demand) Answer
 release_chain s task demand = chain (ReleaseApplies s task demand) 13 (release_known s task demand)
@@ -226,8 +224,6 @@ step_known s t refusal.Working a = absurd a
 step_known s t refusal.Early a = absurd a
 step_known s t refusal.Power a = absurd a
 step_known s t refusal.LongWaking a = absurd a
-step_known s t refusal.LogFull a = absurd a
-step_known s t refusal.BadLog a = absurd a
 
 abbrev step_chain : (s : State) (t : Tally) → Chain (StepApplies s t) Answer
 step_chain s t = chain (StepApplies s t) 8 (step_known s t)

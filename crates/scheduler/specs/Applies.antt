@@ -43,8 +43,6 @@ ReleaseApplies s task demand refusal.Working = (a : ℕ) × (l : ℕ) × ((entry
 ReleaseApplies s task demand refusal.Early = (a : ℕ) × ((entry_in s (task - 1)).last ≡ At a) × (s.clock < a + (entry_in s (task - 1)).task.period)
 ReleaseApplies s task demand refusal.Power = ⊥
 ReleaseApplies s task demand refusal.LongWaking = ⊥
-ReleaseApplies s task demand refusal.LogFull = ⊥
-ReleaseApplies s task demand refusal.BadLog = ⊥
 
 -- No refusal applies to a release where the rules are kept, the clock is before its end, there is such a task, the
 -- demand is 1 to C, task 1 is at a multiple of H, the task rests, and its last release is at least its period ago.
@@ -80,8 +78,6 @@ StepApplies s t refusal.Working = ⊥
 StepApplies s t refusal.Early = ⊥
 StepApplies s t refusal.Power = ⊥
 StepApplies s t refusal.LongWaking = ⊥
-StepApplies s t refusal.LogFull = ⊥
-StepApplies s t refusal.BadLog = ⊥
 
 -- WHEN A REFUSAL APPLIES TO AN ENERGY READING: 6 does where the counts sum to more than 1,000,000,000, 13 where a power
 -- figure is above 1,000,000 microwatts, and no other one.

@@ -288,7 +288,7 @@ fn release_answer(state: State, task: u32, demand: u32) -> Answer
 
 // `entry_of` is the entry of a task, or a spare one where there is no such place. Number 0 reads
 // the first place.
-pub fn entry_of(entries: [Entry; PLACES], task: u32) -> Entry
+fn entry_of(entries: [Entry; PLACES], task: u32) -> Entry
     ensures { result ≡ get_or entries (task - 1) no_entry }
 {
     if task < 1 {

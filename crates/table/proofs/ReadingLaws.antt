@@ -14,7 +14,7 @@ use Rattle.base.proofs.ChoiceLaws.{both}
 use Rattle.base.proofs.FirstLaws.{IsFirst, first_is}
 use Rattle.table.specs.declared.Record.{Record}
 use Rattle.table.specs.declared.Refusal.{Refusal}
-use Rattle.table.specs.declared.Refusal.TheVariants.{Length, Broken, Falling, Sleep, NoWindow, Unfit, ClockEnd, NoTask, Demand, OffBoundary, Working, Early, Power, LongWaking, LogFull, BadLog}
+use Rattle.table.specs.declared.Refusal.TheVariants.{Length, Broken, Falling, Sleep, NoWindow, Unfit, ClockEnd, NoTask, Demand, OffBoundary, Working, Early, Power, LongWaking}
 use Rattle.table.specs.declared.Reading.{Reading}
 use Rattle.table.specs.declared.Reading.TheVariants.{Sound, Refused}
 use Rattle.table.specs.Bytes.{records_in, record_at}
@@ -132,8 +132,6 @@ known bytes Working a = absurd a
 known bytes Early a = absurd a
 known bytes Power a = absurd a
 known bytes LongWaking a = absurd a
-known bytes LogFull a = absurd a
-known bytes BadLog a = absurd a
 
 -- The refusals that apply to a table have numbers below 5.
 pub table_numbers : (bytes : List ℕ) (q : Refusal) → TableApplies bytes q → number q < 5

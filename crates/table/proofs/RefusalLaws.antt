@@ -4,7 +4,7 @@ use mathlib.Core.Path.{◌≡◌, refl}
 use mathlib.Core.Bool.{true, false}
 use native.Mathlib.Omega.{arith}
 use Rattle.table.specs.declared.Refusal.{Refusal}
-use Rattle.table.specs.declared.Refusal.TheVariants.{Length, Broken, Falling, Sleep, NoWindow, Unfit, ClockEnd, NoTask, Demand, OffBoundary, Working, Early, Power, LongWaking, LogFull, BadLog}
+use Rattle.table.specs.declared.Refusal.TheVariants.{Length, Broken, Falling, Sleep, NoWindow, Unfit, ClockEnd, NoTask, Demand, OffBoundary, Working, Early, Power, LongWaking}
 use Rattle.table.specs.Refusals.{told_of, search_gives}
 
 -- A test that fails does not hold.
@@ -26,5 +26,3 @@ search_number Working e = not_so e
 search_number Early e = not_so e
 search_number Power e = not_so e
 search_number LongWaking e = not_so e
-search_number LogFull e = not_so e
-search_number BadLog e = not_so e

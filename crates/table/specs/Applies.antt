@@ -3,7 +3,7 @@
 use Rattle.std.specs.Prelude.{ℕ, ◌+◌, ◌-◌, ◌%◌, ◌≤◌, ◌<◌, ◌≡◌, ◌≢◌, ◌⊎◌, List, length}
 use Rattle.table.specs.declared.Record.{Record}
 use Rattle.table.specs.declared.Refusal.{Refusal}
-use Rattle.table.specs.declared.Refusal.TheVariants.{Length, Broken, Falling, Sleep, NoWindow, Unfit, ClockEnd, NoTask, Demand, OffBoundary, Working, Early, Power, LongWaking, LogFull, BadLog}
+use Rattle.table.specs.declared.Refusal.TheVariants.{Length, Broken, Falling, Sleep, NoWindow, Unfit, ClockEnd, NoTask, Demand, OffBoundary, Working, Early, Power, LongWaking}
 use Rattle.table.specs.Bytes.{records_in, record_at}
 use Rattle.table.specs.Refusals.{told_of}
 use Rattle.table.specs.Sound.{places}
@@ -53,5 +53,3 @@ TableApplies bytes Working = ⊥
 TableApplies bytes Early = ⊥
 TableApplies bytes Power = ⊥
 TableApplies bytes LongWaking = ⊥
-TableApplies bytes LogFull = ⊥
-TableApplies bytes BadLog = ⊥

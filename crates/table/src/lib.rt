@@ -28,7 +28,7 @@ pub struct Record {
     pub reserved: u32,
 }
 
-// These refusals are what is turned away, in the order of their numbers, 1 to 16 (RULES 3.1).
+// These refusals are what is turned away, in the order of their numbers, 1 to 14 (RULES 3.1).
 #[derive(Drop)]
 pub enum Refusal {
     Length,
@@ -45,8 +45,6 @@ pub enum Refusal {
     Early,
     Power,
     LongWaking,
-    LogFull,
-    BadLog,
 }
 
 // This is a refusal as RULES 3.1 gives it: its number, the record or task that comes back with
@@ -226,8 +224,6 @@ pub fn tell(refusal: Refusal) -> Told
         Refusal::Early => placed(12, 0),
         Refusal::Power => placed(13, 0),
         Refusal::LongWaking => placed(14, 0),
-        Refusal::LogFull => placed(15, 0),
-        Refusal::BadLog => placed(16, 0),
     }
 }
 

@@ -5,7 +5,7 @@ use mathlib.Core.Bool.{false}
 use mathlib.Core.List.{[], ◌∷◌}
 use types.Run.{miss}
 use Rattle.table.specs.declared.Refusal.{Refusal}
-use Rattle.table.specs.declared.Refusal.TheVariants.{Length, Broken, Falling, Sleep, NoWindow, Unfit, ClockEnd, NoTask, Demand, OffBoundary, Working, Early, Power, LongWaking, LogFull, BadLog}
+use Rattle.table.specs.declared.Refusal.TheVariants.{Length, Broken, Falling, Sleep, NoWindow, Unfit, ClockEnd, NoTask, Demand, OffBoundary, Working, Early, Power, LongWaking}
 use Rattle.table.specs.Refusals.{search_gives}
 use Rattle.table.proofs.no_window.Statement.{statement}
 use Rattle.table.proofs.no_window.Tie as tie
@@ -24,7 +24,7 @@ returns-2 c = go c.before.args.refusal refl
     go (Broken k) e = refl
     go (Falling k) e = refl
     go Sleep e = refl
-    go (NoWindow task rounds) e = absurd (miss (0 ∷ 1 ∷ 2 ∷ 3 ∷ 5 ∷ 6 ∷ 7 ∷ 8 ∷ 9 ∷ 10 ∷ 11 ∷ 12 ∷ 13 ∷ 14 ∷ 15 ∷ []) 4 tt (rw e at c.match.keys2))
+    go (NoWindow task rounds) e = absurd (miss (0 ∷ 1 ∷ 2 ∷ 3 ∷ 5 ∷ 6 ∷ 7 ∷ 8 ∷ 9 ∷ 10 ∷ 11 ∷ 12 ∷ 13 ∷ []) 4 tt (rw e at c.match.keys2))
     go Unfit e = refl
     go ClockEnd e = refl
     go NoTask e = refl
@@ -34,8 +34,6 @@ returns-2 c = go c.before.args.refusal refl
     go Early e = refl
     go Power e = refl
     go LongWaking e = refl
-    go LogFull e = refl
-    go BadLog e = refl
 
 pub no-window-spec : {M : Type 1} → statement M
 no-window-spec = tie.close (tie.spec enum_told returns returns-2)

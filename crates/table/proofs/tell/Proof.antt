@@ -84,18 +84,6 @@ enum-told-11 c = search rules
 placed-requires-13 : tie.Need-placed-requires-13
 placed-requires-13 c κs = search rules
 
-enum-told-12 : tie.Need-enum-told-12
-enum-told-12 c = search rules
-
-placed-requires-14 : tie.Need-placed-requires-14
-placed-requires-14 c κs = search rules
-
-enum-told-13 : tie.Need-enum-told-13
-enum-told-13 c = search rules
-
-placed-requires-15 : tie.Need-placed-requires-15
-placed-requires-15 c κs = search rules
-
 returns : tie.Need-returns
 returns c = cc
 
@@ -109,7 +97,7 @@ returns-4 : tie.Need-returns-4
 returns-4 c = cc
 
 returns-5 : tie.Need-returns-5
-returns-5 c = rw c.before.refusal3.given.1
+returns-5 c = cc
 
 returns-6 : tie.Need-returns-6
 returns-6 c = cc
@@ -137,12 +125,6 @@ returns-13 c = cc
 
 returns-14 : tie.Need-returns-14
 returns-14 c = cc
-
-returns-15 : tie.Need-returns-15
-returns-15 c = cc
-
-returns-16 : tie.Need-returns-16
-returns-16 c = cc
 
 pub tell-spec : {M : Type 1} → statement M
 tell-spec =
@@ -175,10 +157,6 @@ tell-spec =
     placed-requires-12
     enum-told-11
     placed-requires-13
-    enum-told-12
-    placed-requires-14
-    enum-told-13
-    placed-requires-15
     returns
     returns-2
     returns-3
@@ -192,6 +170,4 @@ tell-spec =
     returns-11
     returns-12
     returns-13
-    returns-14
-    returns-15
-    returns-16)
+    returns-14)
