@@ -1,5 +1,7 @@
 // The admission test gives, for any bytes, a verdict that a dealer can believe. specs/Verdicts.antt
 // says what it is, specs/Figure.antt what limit and figure are.
+#![tactic(auto)]
+
 ghost use Rattle.std.specs.Prelude.{◌≡◌, ◌+◌, ◌*◌, ◌≤◌, ◌<◌};
 ghost use Rattle.base.specs.Sum.{sum_to};
 ghost use Rattle.theory.specs.Round.{ceil as theory·ceil};
@@ -13,7 +15,7 @@ ghost use Rattle.admission.specs.Verdicts.{Tasks, walk_from, admit_of, zeros};
 
 use table::{PLACES, Reading, Refusal, read, record_at};
 
-#[derive(Drop)]
+#[derive(Clone, Copy)]
 pub enum Answer {
     Admitted { tasks: u32 },
     Refused(Refusal),
@@ -21,7 +23,7 @@ pub enum Answer {
 
 // A verdict is the answer and, by task from place 0 on, window, response figure and rounds. Under
 // refusal 5 the tasks before the failing one have theirs; places that nothing fills are zero.
-#[derive(Drop)]
+#[derive(Clone, Copy)]
 pub struct Verdict {
     pub answer: Answer,
     pub windows: [u32; PLACES],

@@ -1,5 +1,7 @@
 // This is for the bench alone: many steps are made inside one call, so that the step is measured
 // without the cost of a call from outside; on words, and with the state by value.
+#![tactic(auto)]
+
 ghost use Rattle.std.specs.Prelude.{◌≡◌};
 ghost use Rattle.scheduler.specs.Starts.{start_of};
 ghost use Rattle.bench_steps.specs.ManySteps.{steps_on, steps_of, counted};

@@ -1,6 +1,8 @@
 // Every decision about a state is a function here, over the head of the state and one entry, so that
 // the engine by value and the one on words share it: what fits, what may come, what a tick is, what
 // it changes, and the energy of a tally. specs/ says what each gives.
+#![tactic(auto)]
+
 ghost use Rattle.std.specs.Prelude.{◌≡◌, ◌-◌, ◌<◌};
 ghost use Rattle.decisions.specs.Fits.{last_fits, last_is, job_fits, task_fits, rests_never, spare_fits, place_fits, waking_fits, head_fits, total, tally_fits};
 ghost use Rattle.decisions.specs.Asks.{working, early, ask_spacing, may_release, may_step};
@@ -15,20 +17,20 @@ pub const CLOCK_END: u32 = 1000000000;
 pub const POWER_MOST: u32 = 1000000;
 
 // A working task's job has its release tick and the work it has left.
-#[derive(Drop)]
+#[derive(Clone, Copy)]
 pub enum Job {
     Resting,
     Working { release: u32, left: u32 },
 }
 
 // `Last` is a task's last release tick, or never.
-#[derive(Drop)]
+#[derive(Clone, Copy)]
 pub enum Last {
     Never,
     At(u32),
 }
 
-#[derive(Drop)]
+#[derive(Clone, Copy)]
 pub struct Entry {
     pub task: Record,
     pub job: Job,
@@ -37,7 +39,7 @@ pub struct Entry {
 
 // A head is what a state holds beside its entries: the sleep record, the number of tasks, the clock
 // and the waking length V.
-#[derive(Drop)]
+#[derive(Clone, Copy)]
 pub struct Head {
     pub sleep: Record,
     pub n: u32,
@@ -46,7 +48,7 @@ pub struct Head {
 }
 
 // A tally counts the ticks of a run by kind, a slot tick as slot or as waking. They sum to the clock.
-#[derive(Drop)]
+#[derive(Clone, Copy)]
 pub struct Tally {
     pub run: u32,
     pub slot: u32,
@@ -55,7 +57,7 @@ pub struct Tally {
 }
 
 // `Count` names a count of a tally.
-#[derive(Drop)]
+#[derive(Clone, Copy)]
 pub enum Count {
     Runs,
     Slots,
@@ -64,20 +66,20 @@ pub enum Count {
 }
 
 // `Tick` says what a tick was: a run of the task with that number, a slot tick or a tail tick.
-#[derive(Drop)]
+#[derive(Clone, Copy)]
 pub enum Tick {
     Run(u32),
     Slot,
     Tail,
 }
 
-#[derive(Drop)]
+#[derive(Clone, Copy)]
 pub enum Answer {
     Accepted,
     Refused(Refusal),
 }
 
-#[derive(Drop)]
+#[derive(Clone, Copy)]
 pub struct EnergyReading {
     pub answer: Answer,
     pub nanojoules: u64,

@@ -1,5 +1,7 @@
 // The listing program reads a table from standard input and writes its listing on standard output.
 // All of it but the reading and the writing is texts::listing.
+#![tactic(auto)]
+
 fn main() {
     // The input has one byte more than the longest table, so that a longer one is seen to be too
     // long.

@@ -1,8 +1,9 @@
 // The listings of many tables, built in, stand each under a line with its name: this runs and
 // compares what docs/RULES.md says of the admission test and the listing.
+#![tactic(auto)]
 
 // A draft is a table under construction, as words: four to a record.
-#[derive(Drop)]
+#[derive(Clone, Copy)]
 struct Draft {
     words: [u32; 72],
     count: usize,

@@ -2,6 +2,8 @@
 // lie in buffers of 32-bit words that the caller lends, and every call works where they stand.
 // specs/Layout.antt is the layout of a buffer, specs/Calls.antt says what each call gives, and
 // include/node.h says both for C.
+#![tactic(auto)]
+
 ghost use Rattle.std.specs.Prelude.{◌≡◌, true, [], ◌∷◌, ◌+◌, ◌-◌, ◌≤◌, ◌<◌, length, get_or, set};
 ghost use Rattle.base.specs.First.{first_from};
 ghost use Rattle.table.specs.Refusals.{told_of};

@@ -1,6 +1,8 @@
 // The worst pattern runs for 2,000 ticks on most sets of RULES 15 and on three tasks that tell k
 // times H from w: each task's figure and largest response are written. On a set that is refused
 // with 5 the pattern is given to the tasks up to the failing one.
+#![tactic(auto)]
+
 use admission::{Answer, admit};
 use decisions::{Job, Tally, Tick};
 use scheduler::{State, Ticked, release, start, step_on};

@@ -1,6 +1,8 @@
 // The schedule of a node goes tick by tick: start makes a state by value, release and step carry it
 // on, and the caller lends a tally. Any state, tally, task number and demand may be handed in; what
 // is refused comes back unchanged. specs/ says what each call gives.
+#![tactic(auto)]
+
 ghost use Rattle.std.specs.Prelude.{◌≡◌, ◌-◌, ◌≤◌, ◌<◌, get_or};
 ghost use Rattle.base.specs.First.{first_from};
 ghost use Rattle.table.specs.Bytes.{no_record};
@@ -19,7 +21,7 @@ use table::{MOST_TASKS, PLACES, Reading, Record, Refusal, read, record_at};
 
 // A state holds the table, the clock, the waking length V and one entry per task. A place after
 // those of the n tasks is spare: a record of zeros that rests and reads never.
-#[derive(Drop)]
+#[derive(Clone, Copy)]
 pub struct State {
     pub sleep: Record,
     pub n: u32,
@@ -28,32 +30,32 @@ pub struct State {
     pub entries: [Entry; PLACES],
 }
 
-#[derive(Drop)]
+#[derive(Clone, Copy)]
 pub enum Ticked {
     Tick(Tick),
     Refused(Refusal),
 }
 
-#[derive(Drop)]
+#[derive(Clone, Copy)]
 pub struct Started {
     pub answer: Answer,
     pub state: State,
 }
 
-#[derive(Drop)]
+#[derive(Clone, Copy)]
 pub struct Released {
     pub answer: Answer,
     pub state: State,
 }
 
-#[derive(Drop)]
+#[derive(Clone, Copy)]
 pub struct Stepped {
     pub answer: Ticked,
     pub state: State,
 }
 
 // `Moved` is what a step gives, with the tally beside it, by value.
-#[derive(Drop)]
+#[derive(Clone, Copy)]
 pub struct Moved {
     pub answer: Ticked,
     pub tally: Tally,

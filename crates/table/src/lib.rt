@@ -2,6 +2,8 @@
 // copied. What the bytes hold is said by specs/Bytes.antt, when a table is sound and which refusal
 // it gets otherwise by specs/Sound.antt, when a task may be released by specs/Times.antt, and what
 // a refusal comes back with and which call gives it by specs/Refusals.antt.
+#![tactic(auto)]
+
 ghost use Rattle.std.specs.Prelude.{◌≡◌, ◌<◌, ◌≤◌, ◌/◌};
 ghost use Rattle.table.specs.Refusals.{search_gives, told_of};
 ghost use Rattle.table.specs.Bytes.{word_at, record_at, records_in};
@@ -20,7 +22,7 @@ pub const LARGEST: u32 = 60000;
 
 // This is one record. In record 0 the work is the sleep time S and the period the harmonizing
 // period H.
-#[derive(Drop)]
+#[derive(Clone, Copy)]
 pub struct Record {
     pub label: u32,
     pub work: u32,
@@ -29,7 +31,7 @@ pub struct Record {
 }
 
 // These refusals are what is turned away, in the order of their numbers, 1 to 14 (RULES 3.1).
-#[derive(Drop)]
+#[derive(Clone, Copy)]
 pub enum Refusal {
     Length,
     Broken { record: u32 },
@@ -49,7 +51,7 @@ pub enum Refusal {
 
 // This is a refusal as RULES 3.1 gives it: its number, the record or task that comes back with
 // it, and the rounds spent; what it does not come back with is 0.
-#[derive(Drop)]
+#[derive(Clone, Copy)]
 pub struct Told {
     pub number: u32,
     pub place: u32,
@@ -57,7 +59,7 @@ pub struct Told {
 }
 
 // A table's reading is the number of its tasks, or the lowest of refusals 1 to 4 that applies.
-#[derive(Drop)]
+#[derive(Clone, Copy)]
 pub enum Reading {
     Sound { tasks: u32 },
     Refused(Refusal),

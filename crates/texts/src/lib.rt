@@ -1,5 +1,7 @@
 // The listing of a table as text is a header, a line for each task that has its figures, and the
 // verdict. specs/Listing.antt says what it is for any bytes.
+#![tactic(auto)]
+
 ghost use Rattle.std.specs.Prelude.{◌≡◌, ◌<◌};
 ghost use Rattle.texts.specs.Pages.{blank, put, shown};
 ghost use Rattle.texts.specs.Listing.{decimal, field_of, line_of, header, rows_shown, last_of, listing_of};
@@ -12,7 +14,7 @@ pub const ROOM: usize = 2048;
 
 // A page of text has its bytes and how many of them are written. A byte after the last place is
 // lost; no listing is that long (proofs/ListingLaws.antt).
-#[derive(Drop)]
+#[derive(Clone, Copy)]
 pub struct Page {
     pub text: [u8; ROOM],
     pub len: usize,

@@ -1,5 +1,7 @@
 // The schedule is run and compared: case J of RULES 15 tick by tick, F's run, every refusal 6 to 14
 // at small inputs with what came back, and a state for every rule of RULES 4.
+#![tactic(auto)]
+
 ghost use Rattle.std.specs.Prelude.{◌≡◌};
 ghost use Rattle.scheduler.specs.Steps.{step_of};
 
@@ -369,7 +371,7 @@ fn house_at(t: u32) -> State {
 }
 
 // `Written` says what is written of a run.
-#[derive(Drop)]
+#[derive(Clone, Copy)]
 enum Written {
     Nothing,
     Ticks,
@@ -377,7 +379,7 @@ enum Written {
     Finishes,
 }
 
-#[derive(Drop)]
+#[derive(Clone, Copy)]
 struct Ran {
     state: State,
     tally: Tally,

@@ -1,5 +1,7 @@
 // The calls on words are run and compared: verdicts, a start, case J with a stop at tick 30, every
 // refusal, and the words that stand in the buffers after each.
+#![tactic(auto)]
+
 use node::{node_admit, node_energy, node_release, node_start, node_step};
 
 // The tables are the house table and the source's Figure 1 set, as in tables/.
@@ -10,7 +12,7 @@ const FIGURE_1: [u8; 64] =
     *b"\0\0\0\0\x05\0\0\0\x0a\0\0\0\0\0\0\0\x01\0\0\0\x01\0\0\0\x0a\0\0\0\0\0\0\0\x02\0\0\0\x01\0\0\0\x0f\0\0\0\0\0\0\0\x03\0\0\0\x02\0\0\0\x1a\0\0\0\0\0\0\0";
 
 // These words are all that a stop has to save.
-#[derive(Drop)]
+#[derive(Clone, Copy)]
 struct Saved {
     state: [u32; 151],
     tally: [u32; 4],
