@@ -66,6 +66,7 @@ pub enum Reading {
 }
 
 // `read` gives the reading of any bytes.
+#[tactic(auto, unfolding(crate::specs::Sound::read_of, crate::specs::Sound::ask_records, crate::specs::Sound::ask_order, crate::specs::Sound::ask_sleep))]
 pub fn read(table: &[u8]) -> Reading
     ensures { result ≡ read_of table.now }
 {
@@ -111,6 +112,7 @@ pub fn records_in(table: &[u8]) -> usize
 }
 
 // `record_at` gives record k, or a record of zeros where the bytes hold no whole record k.
+#[tactic(auto, unfolding(crate::specs::Bytes::record_at))]
 pub fn record_at(table: &[u8], k: usize) -> Record
     ensures { result ≡ record_at table.now k }
 {
@@ -133,6 +135,7 @@ pub fn record_at(table: &[u8], k: usize) -> Record
 
 // `word_at` gives the 32-bit number at a byte position, little-endian, or 0 where not all four
 // bytes are there.
+#[tactic(auto, unfolding(crate::specs::Bytes::word_at))]
 pub fn word_at(bytes: &[u8], at: usize) -> u32
     ensures { result ≡ word_at bytes.now at }
 {
@@ -179,6 +182,7 @@ pub fn sleep_fits(sleep: Record, first: Record) -> bool
 
 // `release_time` tells whether the task at place i, from 0, may be released at a tick: the first
 // task may at multiples of h alone, any other at every tick.
+#[tactic(auto, unfolding(crate::specs::Times::release_time))]
 pub fn release_time(h: u32, i: u32, tick: u32) -> bool
     ensures { result ≡ release_time h i tick }
 {
@@ -240,6 +244,7 @@ fn placed(number: u32, place: u32) -> Told
 }
 
 // `first_broken` gives the first record that breaks its rule, or count.
+#[tactic(auto, using(base::proofs::FirstLaws::first_on, base::proofs::FirstLaws::first_here, base::proofs::FirstLaws::first_end))]
 fn first_broken(table: &[u8], count: usize) -> usize
     ensures { result ≡ first_broken (record_at table.now) count }
 {
@@ -256,6 +261,7 @@ fn first_broken(table: &[u8], count: usize) -> usize
 
 // `first_falling` gives the first record from 2 on whose period is below that of the one before, or
 // count.
+#[tactic(auto, using(base::proofs::FirstLaws::first_on, base::proofs::FirstLaws::first_here, base::proofs::FirstLaws::first_end))]
 fn first_falling(table: &[u8], count: usize) -> usize
     requires { 2 ≤ count }
     ensures { result ≡ first_falling (record_at table.now) count }
