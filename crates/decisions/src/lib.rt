@@ -279,6 +279,7 @@ pub fn tally_fits(tally: Tally, clock: u32) -> bool
 }
 
 // `may_release` tests for numbers 7 to 12, in a state that keeps its rules, from its head and the task's entry.
+#[tactic(auto, unfolding(crate::specs::Asks::may_release, crate::specs::Asks::ask_task, crate::specs::Asks::ask_demand))]
 pub fn may_release(head: Head, e: Entry, task: u32, demand: u32) -> Answer
     ensures { result ≡ may_release head e task demand }
 {
