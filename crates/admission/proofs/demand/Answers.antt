@@ -1,0 +1,43 @@
+-- The parts of the demand are those of the definition, and small.
+use Rattle.std.proofs.Common.{◌+◌, ◌*◌, ◌≤◌, arith}
+use Rattle.table.specs.Set.{rules_of}
+use Rattle.admission.proofs.DemandLaws.{Parts, parts_small, terms_most, table_small, few_tasks, work_at, sleep_at}
+use Rattle.admission.proofs.demand.Goals as goal
+
+pub ceil-k-requires : goal.ceil-k-requires
+ceil-k-requires c =
+    rw c.record_at-sleep.ensures (omega (arith, c.requires.1, sleep_at c.args.table.now (c.args.i + 1) c.requires.0))
+
+pub overflow_mul-span : goal.overflow_mul-span
+overflow_mul-span c =
+    let parts = parts_small c.args.table.now c.args.i c.args.w c.requires.0 c.requires.1 in
+    rw (c.ceil-k.ensures, c.record_at-sleep.ensures) (omega (arith, parts.span))
+
+pub jobs_above-above-requires : goal.jobs_above-above-requires
+jobs_above-above-requires c =
+    let t = c.requires.0 in
+    let parts = parts_small c.args.table.now c.args.i c.args.w c.requires.0 c.requires.1 in
+    (record { all = t.all; reads = t.reads; enough = omega (arith, t.enough) }, rw (c.ceil-k.ensures, c.record_at-sleep.ensures) parts.span)
+
+pub overflow_mul-result : goal.overflow_mul-result
+overflow_mul-result c =
+    let parts = parts_small c.args.table.now c.args.i c.args.w c.requires.0 c.requires.1 in
+    rw (c.ceil-k.ensures, c.record_at-sleep.ensures) (omega (arith, parts.slots))
+
+-- The task's own work is at most 60,000.
+pub overflow_add-result : goal.overflow_add-result
+overflow_add-result c =
+    let parts = parts_small c.args.table.now c.args.i c.args.w c.requires.0 c.requires.1 in
+    let s = table_small c.args.table.now (c.args.i + 1) c.requires.0 c.args.i in
+    let e = work_at c.args.table.now (c.args.i + 1) c.requires.0 c.args.i (omega arith) in
+    rw (c.ceil-k.ensures, c.record_at-sleep.ensures, c.record_at-task.ensures, ← e) (omega (arith, parts.slots))
+
+-- The work of the tasks above it is at most 2,880,000.
+pub overflow_add-result-2 : goal.overflow_add-result-2
+overflow_add-result-2 c =
+    let parts = parts_small c.args.table.now c.args.i c.args.w c.requires.0 c.requires.1 in
+    let s = table_small c.args.table.now (c.args.i + 1) c.requires.0 c.args.i in
+    let e = work_at c.args.table.now (c.args.i + 1) c.requires.0 c.args.i (omega arith) in
+    let few = few_tasks c.args.table.now (c.args.i + 1) c.requires.0 in
+    rw (c.jobs_above-above.ensures, c.ceil-k.ensures, c.record_at-sleep.ensures, c.record_at-task.ensures, ← e)
+    (omega (arith, parts.slots, parts.above, few))
