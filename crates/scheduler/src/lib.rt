@@ -65,6 +65,7 @@ pub struct Moved {
 // A start gives the fresh state of a table and a waking length: clock 0, every task resting, never
 // released. Refusals 1 to 4 and 14 come with a state of no tasks, which every step and release
 // refuses. Refusal 5 is not given here.
+#[tactic(auto, using(crate::proofs::GivenLaws::given_set))]
 pub fn start(table: &[u8], waking: u32) -> Started
     ensures { result ≡ start_of (record { table = table.entry.now; waking = waking }) }
 {
@@ -103,6 +104,7 @@ pub fn start(table: &[u8], waking: u32) -> Started
 
 // A release of a task at the state's clock with a demand gives refusals 6 to 12, the state
 // unchanged, or the state with the task at work.
+#[tactic(auto, using(crate::proofs::ReleaseLaws::accepted_says))]
 pub fn release(state: State, task: u32, demand: u32) -> Released
     ensures { result ≡ release_of state task demand }
 {
@@ -150,6 +152,7 @@ pub fn step(state: State, tally: &mut Tally) -> Stepped
 }
 
 // `step_on` is `step` with the tally by value.
+#[tactic(auto, using(crate::proofs::StateLaws::fits_says, crate::proofs::StepLaws::may_step_says), unfolding(crate::specs::States::record_in, crate::specs::Steps::step_of))]
 pub fn step_on(state: State, tally: Tally) -> Moved
     ensures { result ≡ step_of state tally }
 {
@@ -174,6 +177,7 @@ pub fn step_on(state: State, tally: Tally) -> Moved
 }
 
 // `read_given` reads what a start is given: the table's refusals come first, then 14.
+#[tactic(auto, unfolding(crate::specs::Starts::read_given))]
 fn read_given(table: &[u8], waking: u32) -> Reading
     ensures { result ≡ read_given (record { table = table.entry.now; waking = waking }) }
 {
@@ -191,6 +195,7 @@ fn read_given(table: &[u8], waking: u32) -> Reading
 }
 
 // `fresh` gives the entries of a table's n tasks, resting and never released, and spare places.
+#[tactic(auto, unfolding(crate::specs::States::entries_of))]
 fn fresh(table: &[u8], n: u32) -> [Entry; PLACES]
     requires { n ≤ 16 }
     ensures { result ≡ entries_of table.now n }
@@ -245,6 +250,7 @@ fn head_of(state: State) -> Head
 }
 
 // `fits` tells whether a state keeps every rule that is checked for 6.
+#[tactic(auto, unfolding(crate::specs::States::state_fits, crate::specs::States::record_in))]
 fn fits(state: State) -> bool
     ensures { result ≡ state_fits state }
 {
@@ -259,6 +265,7 @@ fn fits(state: State) -> bool
 }
 
 // `places_fit` tells whether every place, a task's or a spare one, keeps its rules.
+#[tactic(auto, using(base::proofs::EveryLaws::every_more, base::proofs::EveryLaws::every_not), unfolding(crate::specs::States::period_before, base::specs::Every::every))]
 fn places_fit(head: Head, entries: [Entry; PLACES]) -> bool
     ensures { result ≡ places_fit head entries }
 {
@@ -277,6 +284,7 @@ fn places_fit(head: Head, entries: [Entry; PLACES]) -> bool
 }
 
 // `release_answer` makes the tests of a release in the order of their numbers.
+#[tactic(auto, unfolding(crate::specs::Releases::release_answer))]
 fn release_answer(state: State, task: u32, demand: u32) -> Answer
     ensures { result ≡ release_answer state task demand }
 {
@@ -303,6 +311,7 @@ fn entry_of(entries: [Entry; PLACES], task: u32) -> Entry
 }
 
 // `tick_of` says what the next tick of a state that keeps its rules is.
+#[tactic(auto, using(crate::proofs::TickLaws::first_ready_is))]
 fn tick_of(state: State) -> Tick
     requires { Ready state }
     ensures { result ≡ tick_of state }
@@ -317,6 +326,7 @@ fn tick_of(state: State) -> Tick
 }
 
 // `after_tick` is the state after its tick.
+#[tactic(auto, using(crate::proofs::TickLaws::run_is_task))]
 fn after_tick(state: State, tick: Tick) -> State
     requires { Ready state × (tick ≡ tick_of state) }
     ensures { result ≡ after_tick state tick }
@@ -363,6 +373,7 @@ fn raised(tally: Tally, count: Count) -> Tally
 }
 
 // `first_ready` is the first of the n tasks whose job was released at or before the boundary, or n.
+#[tactic(auto, using(base::proofs::FirstLaws::first_on, base::proofs::FirstLaws::first_here, base::proofs::FirstLaws::first_end))]
 fn first_ready(entries: [Entry; PLACES], n: u32, boundary: u32) -> u32
     requires { n ≤ 16 }
     ensures { result ≡ first_from (λ i. came boundary (get_or entries i no_entry).job) n 0 }
