@@ -12,8 +12,9 @@ use scheduler::{start, step_on};
 
 // The call makes so many steps on a state's words, and gives the answer of the last, or 0 where
 // there is none.
-#[unsafe(no_mangle)]
-pub extern "C" fn steps_on(state: &mut [u32], tally: &mut [u32], count: u32) -> u64
+
+#[tactic(auto, unfolding(crate::specs::ManySteps::steps_on))]
+pub fn steps_on(state: &mut [u32], tally: &mut [u32], count: u32) -> u64
     ensures { (result ≡ (steps_on state.old tally.old count).answer)
         × (state.new ≡ (steps_on state.old tally.old count).state)
         × (tally.new ≡ (steps_on state.old tally.old count).tally) }
@@ -30,8 +31,9 @@ pub extern "C" fn steps_on(state: &mut [u32], tally: &mut [u32], count: u32) -> 
 
 // The call starts with no waking, makes so many steps with the state by value, and gives the slot
 // ticks, and above them the tail ticks.
-#[unsafe(no_mangle)]
-pub extern "C" fn steps_by_value(table: &[u8], count: u32) -> u64
+
+#[tactic(auto, unfolding(crate::specs::ManySteps::steps_of))]
+pub fn steps_by_value(table: &[u8], count: u32) -> u64
     ensures { result ≡ counted (steps_of (start_of (record { table = table.entry.now; waking = 0 })).state count) }
 {
     let started = start(table, 0);

@@ -21,6 +21,7 @@ pub struct Page {
 }
 
 // The result is the listing of any bytes, on a page of zeros.
+#[tactic(auto, using(crate::proofs::ListingLaws::rows_few, crate::proofs::TextLaws::shown_append), unfolding(crate::specs::Listing::lines_of, crate::specs::Pages::shown))]
 pub fn listing(table: &[u8]) -> Page
     ensures { result ≡ shown blank (listing_of table.now) }
 {
@@ -58,6 +59,7 @@ fn rows_shown(answer: Answer) -> usize
 }
 
 // The result is a page with the header on it.
+#[tactic(auto, unfolding(crate::specs::Listing::header))]
 fn titled() -> Page
     ensures { result ≡ shown blank header }
 {
@@ -69,6 +71,7 @@ fn titled() -> Page
 }
 
 // The line of the task at place i has its number, label, work, period, window, figure and rounds.
+#[tactic(auto, using(crate::proofs::TextLaws::shown_append, crate::proofs::TextLaws::shown_one), unfolding(crate::specs::Listing::line_of))]
 fn line(page: Page, i: usize, task: Record, window: u32, figure: u32, rounds: u32) -> Page
     requires { i < 16 }
     ensures { result ≡ shown page (line_of i task window figure rounds) }
@@ -84,6 +87,7 @@ fn line(page: Page, i: usize, task: Record, window: u32, figure: u32, rounds: u3
 }
 
 // The last line is the verdict.
+#[tactic(auto, using(crate::proofs::TextLaws::shown_append, crate::proofs::TextLaws::shown_one))]
 fn closed(page: Page, answer: Answer) -> Page
     ensures { result ≡ shown page (last_of answer) }
 {
@@ -104,6 +108,7 @@ fn closed(page: Page, answer: Answer) -> Page
 }
 
 // A field is a number and a space.
+#[tactic(auto, using(crate::proofs::TextLaws::shown_append, crate::proofs::TextLaws::shown_one), unfolding(crate::specs::Listing::field_of))]
 fn field(page: Page, n: u32) -> Page
     ensures { result ≡ shown page (field_of n) }
 {
@@ -112,6 +117,7 @@ fn field(page: Page, n: u32) -> Page
 }
 
 // The number is written in decimal digits.
+#[tactic(auto, using(crate::proofs::TextLaws::shown_append, crate::proofs::TextLaws::shown_one, crate::proofs::TextLaws::decimal_digit, crate::proofs::TextLaws::decimal_more))]
 fn number(page: Page, n: u32) -> Page
     ensures { result ≡ shown page (decimal n) }
 {
@@ -122,6 +128,7 @@ fn number(page: Page, n: u32) -> Page
     byte(high, 48 + (n % 10) as u8)
 }
 
+#[tactic(auto, unfolding(crate::specs::Pages::shown))]
 fn written(page: Page, text: &[u8]) -> Page
     ensures { result ≡ shown page text.now }
 {
@@ -134,6 +141,7 @@ fn written(page: Page, text: &[u8]) -> Page
     p
 }
 
+#[tactic(auto, unfolding(crate::specs::Pages::put))]
 fn byte(page: Page, b: u8) -> Page
     ensures { result ≡ put page b }
 {
