@@ -12,6 +12,7 @@ use Rattle.admission.specs.Applies.{AdmissionApplies}
 use Rattle.admission.specs.Verdicts.{admit_of}
 use Rattle.admission.proofs.RefusedLaws.{admission_refused_exactly}
 use Rattle.admission.proofs as admission
+use Rattle.admission.specs.contracts as admission_contracts
 use Rattle.scheduler.specs.declared.State.{State}
 use Rattle.decisions.specs.declared.Tally.{Tally}
 use Rattle.scheduler.specs.declared.Ticked.TheVariants as ticked
@@ -27,28 +28,31 @@ use Rattle.scheduler.proofs.StartLaws.{no_state_refused}
 use Rattle.scheduler.proofs.RefusalLaws.{energy_refused}
 use Rattle.scheduler.proofs.AnswerLaws as laws
 use Rattle.decisions.proofs as decisions
+use Rattle.decisions.specs.contracts as decisions_contracts
 use Rattle.scheduler.proofs as scheduler
+use Rattle.scheduler.specs.contracts as scheduler_contracts
 use Rattle.node.specs.Calls.{admit_on, start_on, release_on, step_on}
 use Rattle.node.proofs.CallLaws as on
 use Rattle.node.proofs as node
-use Rattle.promises.specs.Settled.{Settles, step_asked, step_learnt}
+use Rattle.node.specs.contracts as node_contracts
+use Rattle.promises.specs.Settled.{Settles}
 use Rattle.promises.specs.Settled as settled
 
 -- Any input may be handed in: the contract of a call asks nothing of its arguments and allows one result alone, what is
 -- left in the lent buffers included (`Settles`). That the call does nothing undefined and ends is what the proof of each
 -- function says.
 pub record AnyInput : Type 0 where
-  pub any_table_may_be_admitted : Settles admission.admit.ended admission.admit.Reads.Asked admission.admit.Reads.Learnt
-  pub any_table_may_be_started : Settles scheduler.start.ended scheduler.start.Reads.Asked scheduler.start.Reads.Learnt
-  pub any_release_may_be_made : Settles scheduler.release.ended scheduler.release.Reads.Asked scheduler.release.Reads.Learnt
-  pub any_step_may_be_made : Settles scheduler.step.ended step_asked step_learnt
-  pub any_tally_may_be_read : Settles decisions.energy.ended decisions.energy.Reads.Asked decisions.energy.Reads.Learnt
+  pub any_table_may_be_admitted : Settles admission_contracts.admit.ended admission.admit.Reads.Asked admission.admit.Reads.Learnt
+  pub any_table_may_be_started : Settles scheduler_contracts.start.ended scheduler.start.Reads.Asked scheduler.start.Reads.Learnt
+  pub any_release_may_be_made : Settles scheduler_contracts.release.ended scheduler.release.Reads.Asked scheduler.release.Reads.Learnt
+  pub any_step_may_be_made : Settles scheduler_contracts.step.ended scheduler.step.Reads.Asked scheduler.step.Reads.Learnt
+  pub any_tally_may_be_read : Settles decisions_contracts.energy.ended decisions.energy.Reads.Asked decisions.energy.Reads.Learnt
   -- The same of the calls on words.
-  pub any_words_may_be_admitted : Settles node.node_admit.ended node.node_admit.Reads.Asked node.node_admit.Reads.Learnt
-  pub any_words_may_be_started : Settles node.node_start.ended node.node_start.Reads.Asked node.node_start.Reads.Learnt
-  pub any_words_may_be_released : Settles node.node_release.ended node.node_release.Reads.Asked node.node_release.Reads.Learnt
-  pub any_words_may_be_stepped : Settles node.node_step.ended node.node_step.Reads.Asked node.node_step.Reads.Learnt
-  pub any_words_may_be_read : Settles node.node_energy.ended node.node_energy.Reads.Asked node.node_energy.Reads.Learnt
+  pub any_words_may_be_admitted : Settles node_contracts.node_admit.ended node.node_admit.Reads.Asked node.node_admit.Reads.Learnt
+  pub any_words_may_be_started : Settles node_contracts.node_start.ended node.node_start.Reads.Asked node.node_start.Reads.Learnt
+  pub any_words_may_be_released : Settles node_contracts.node_release.ended node.node_release.Reads.Asked node.node_release.Reads.Learnt
+  pub any_words_may_be_stepped : Settles node_contracts.node_step.ended node.node_step.Reads.Asked node.node_step.Reads.Learnt
+  pub any_words_may_be_read : Settles node_contracts.node_energy.ended node.node_energy.Reads.Asked node.node_energy.Reads.Learnt
 
 -- Bad input is refused by number: a call gets a refusal exactly when that one applies and none with a lower number does;
 -- so admission gives 1 to 5, a start 1 to 4 and 14, a release 6 to 12, a step 6 and 7, an energy reading 6 and 13.

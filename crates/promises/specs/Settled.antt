@@ -14,11 +14,17 @@ use borrow.Fn.World.{World}
 use borrow.Fn.Claims.{AllOf}
 use borrow.Fn.Read.{all_models, no_know, r_top, r_last}
 use Rattle.table.proofs as table
+use Rattle.table.specs.contracts as table_contracts
 use Rattle.admission.proofs as admission
+use Rattle.admission.specs.contracts as admission_contracts
 use Rattle.decisions.proofs as decisions
+use Rattle.decisions.specs.contracts as decisions_contracts
 use Rattle.scheduler.proofs as scheduler
+use Rattle.scheduler.specs.contracts as scheduler_contracts
 use Rattle.texts.proofs as texts
+use Rattle.texts.specs.contracts as texts_contracts
 use Rattle.node.proofs as node
+use Rattle.node.specs.contracts as node_contracts
 
 -- A contract over a signature f has two halves: κs are its lifetimes, a its arguments, x its result, s its parameters
 -- at exit.
@@ -41,118 +47,107 @@ settled : {A B : Type 0} {Allowed : A → B → Type 0} {promised : A} {left : B
 settled given = (tt, λ x y v w p q. ((given x v p).0 ∙ sym (given y w q).0, (given x v p).1 ∙ sym (given y w q).1))
 
 -- The public functions of crate table are settled.
-read : Settles table.read.ended table.read.Reads.Asked table.read.Reads.Learnt
+read : Settles table_contracts.read.ended table.read.Reads.Asked table.read.Reads.Learnt
 read κs a = settled (λ x v p. (p, refl))
 
-records_in : Settles table.records_in.ended table.records_in.Reads.Asked table.records_in.Reads.Learnt
+records_in : Settles table_contracts.records_in.ended table.records_in.Reads.Asked table.records_in.Reads.Learnt
 records_in κs a = settled (λ x v p. (p, refl))
 
-record_at : Settles table.record_at.ended table.record_at.Reads.Asked table.record_at.Reads.Learnt
+record_at : Settles table_contracts.record_at.ended table.record_at.Reads.Asked table.record_at.Reads.Learnt
 record_at κs a = settled (λ x v p. (p, refl))
 
-word_at : Settles table.word_at.ended table.word_at.Reads.Asked table.word_at.Reads.Learnt
+word_at : Settles table_contracts.word_at.ended table.word_at.Reads.Asked table.word_at.Reads.Learnt
 word_at κs a = settled (λ x v p. (p, refl))
 
-record_fits : Settles table.record_fits.ended table.record_fits.Reads.Asked table.record_fits.Reads.Learnt
+record_fits : Settles table_contracts.record_fits.ended table.record_fits.Reads.Asked table.record_fits.Reads.Learnt
 record_fits κs a = settled (λ x v p. (p, refl))
 
-sleep_fits : Settles table.sleep_fits.ended table.sleep_fits.Reads.Asked table.sleep_fits.Reads.Learnt
+sleep_fits : Settles table_contracts.sleep_fits.ended table.sleep_fits.Reads.Asked table.sleep_fits.Reads.Learnt
 sleep_fits κs a = settled (λ x v p. (p, refl))
 
-release_time : Settles table.release_time.ended table.release_time.Reads.Asked table.release_time.Reads.Learnt
+release_time : Settles table_contracts.release_time.ended table.release_time.Reads.Asked table.release_time.Reads.Learnt
 release_time κs a = settled (λ x v p. (p, refl))
 
-no_window : Settles table.no_window.ended table.no_window.Reads.Asked table.no_window.Reads.Learnt
+no_window : Settles table_contracts.no_window.ended table.no_window.Reads.Asked table.no_window.Reads.Learnt
 no_window κs a = settled (λ x v p. (p, refl))
 
-tell : Settles table.tell.ended table.tell.Reads.Asked table.tell.Reads.Learnt
+tell : Settles table_contracts.tell.ended table.tell.Reads.Asked table.tell.Reads.Learnt
 tell κs a = settled (λ x v p. (p, refl))
 
 -- The public function of crate admission is settled.
-pub admit : Settles admission.admit.ended admission.admit.Reads.Asked admission.admit.Reads.Learnt
+pub admit : Settles admission_contracts.admit.ended admission.admit.Reads.Asked admission.admit.Reads.Learnt
 admit κs a = settled (λ x v p. (p, refl))
 
 -- The public functions of crate scheduler are settled: the answer and the state handed back stand in one result, and
 -- `step` is lent the tally besides.
-pub start : Settles scheduler.start.ended scheduler.start.Reads.Asked scheduler.start.Reads.Learnt
+pub start : Settles scheduler_contracts.start.ended scheduler.start.Reads.Asked scheduler.start.Reads.Learnt
 start κs a = settled (λ x v p. (p, refl))
 
-pub release : Settles scheduler.release.ended scheduler.release.Reads.Asked scheduler.release.Reads.Learnt
+pub release : Settles scheduler_contracts.release.ended scheduler.release.Reads.Asked scheduler.release.Reads.Learnt
 release κs a = settled (λ x v p. (p, refl))
 
--- `step` is walked by hand, since it is lent a struct, and the kit then exports its clauses and no reading of them.
--- They are read here, by the lemmas with which the kit reads the others.
-abbrev pub step_clauses : (m : World) → Clauses m.𝓤 scheduler.step.ended
-step_clauses m = scheduler.step.clauses m.𝓛 m.𝓜.mem m.𝓡.run
-
-abbrev pub step_asked : Asks scheduler.step.ended
-step_asked κs a = AllOf (all_models {Base = λ m. emp m.𝓤} {Know = no_know} (λ m. (step_clauses m κs a).requires tt) (λ m. r_top) (λ m. refl) (λ m. refl) (λ m. refl)).owes
-
-abbrev pub step_learnt : Tells scheduler.step.ended
-step_learnt κs a x s = AllOf (all_models {Base = λ m. emp m.𝓤} {Know = no_know} (λ m. (step_clauses m κs a).ensures tt x s) (λ m. r_last _) (λ m. refl) (λ m. refl) (λ m. refl)).tells
-
-pub step : Settles scheduler.step.ended step_asked step_learnt
+pub step : Settles scheduler_contracts.step.ended scheduler.step.Reads.Asked scheduler.step.Reads.Learnt
 step κs a = settled (λ x v p. (p.0, λ i. (tt, (p.1 i, tt))))
 
-step_on : Settles scheduler.step_on.ended scheduler.step_on.Reads.Asked scheduler.step_on.Reads.Learnt
+step_on : Settles scheduler_contracts.step_on.ended scheduler.step_on.Reads.Asked scheduler.step_on.Reads.Learnt
 step_on κs a = settled (λ x v p. (p, refl))
 
 -- The public functions of crate decisions are settled.
-pub energy : Settles decisions.energy.ended decisions.energy.Reads.Asked decisions.energy.Reads.Learnt
+pub energy : Settles decisions_contracts.energy.ended decisions.energy.Reads.Asked decisions.energy.Reads.Learnt
 energy κs a = settled (λ x v p. (p, refl))
 
-waking_fits : Settles decisions.waking_fits.ended decisions.waking_fits.Reads.Asked decisions.waking_fits.Reads.Learnt
+waking_fits : Settles decisions_contracts.waking_fits.ended decisions.waking_fits.Reads.Asked decisions.waking_fits.Reads.Learnt
 waking_fits κs a = settled (λ x v p. (p, refl))
 
-head_fits : Settles decisions.head_fits.ended decisions.head_fits.Reads.Asked decisions.head_fits.Reads.Learnt
+head_fits : Settles decisions_contracts.head_fits.ended decisions.head_fits.Reads.Asked decisions.head_fits.Reads.Learnt
 head_fits κs a = settled (λ x v p. (p, refl))
 
-place_fits : Settles decisions.place_fits.ended decisions.place_fits.Reads.Asked decisions.place_fits.Reads.Learnt
+place_fits : Settles decisions_contracts.place_fits.ended decisions.place_fits.Reads.Asked decisions.place_fits.Reads.Learnt
 place_fits κs a = settled (λ x v p. (p, refl))
 
-tally_fits : Settles decisions.tally_fits.ended decisions.tally_fits.Reads.Asked decisions.tally_fits.Reads.Learnt
+tally_fits : Settles decisions_contracts.tally_fits.ended decisions.tally_fits.Reads.Asked decisions.tally_fits.Reads.Learnt
 tally_fits κs a = settled (λ x v p. (p, refl))
 
-may_release : Settles decisions.may_release.ended decisions.may_release.Reads.Asked decisions.may_release.Reads.Learnt
+may_release : Settles decisions_contracts.may_release.ended decisions.may_release.Reads.Asked decisions.may_release.Reads.Learnt
 may_release κs a = settled (λ x v p. (p, refl))
 
-may_step : Settles decisions.may_step.ended decisions.may_step.Reads.Asked decisions.may_step.Reads.Learnt
+may_step : Settles decisions_contracts.may_step.ended decisions.may_step.Reads.Asked decisions.may_step.Reads.Learnt
 may_step κs a = settled (λ x v p. (p, refl))
 
-in_slot : Settles decisions.in_slot.ended decisions.in_slot.Reads.Asked decisions.in_slot.Reads.Learnt
+in_slot : Settles decisions_contracts.in_slot.ended decisions.in_slot.Reads.Asked decisions.in_slot.Reads.Learnt
 in_slot κs a = settled (λ x v p. (p, refl))
 
-last_boundary : Settles decisions.last_boundary.ended decisions.last_boundary.Reads.Asked decisions.last_boundary.Reads.Learnt
+last_boundary : Settles decisions_contracts.last_boundary.ended decisions.last_boundary.Reads.Asked decisions.last_boundary.Reads.Learnt
 last_boundary κs a = settled (λ x v p. (p, refl))
 
-run_or_tail : Settles decisions.run_or_tail.ended decisions.run_or_tail.Reads.Asked decisions.run_or_tail.Reads.Learnt
+run_or_tail : Settles decisions_contracts.run_or_tail.ended decisions.run_or_tail.Reads.Asked decisions.run_or_tail.Reads.Learnt
 run_or_tail κs a = settled (λ x v p. (p, refl))
 
-count_of : Settles decisions.count_of.ended decisions.count_of.Reads.Asked decisions.count_of.Reads.Learnt
+count_of : Settles decisions_contracts.count_of.ended decisions.count_of.Reads.Asked decisions.count_of.Reads.Learnt
 count_of κs a = settled (λ x v p. (p, refl))
 
-came_by : Settles decisions.came_by.ended decisions.came_by.Reads.Asked decisions.came_by.Reads.Learnt
+came_by : Settles decisions_contracts.came_by.ended decisions.came_by.Reads.Asked decisions.came_by.Reads.Learnt
 came_by κs a = settled (λ x v p. (p, refl))
 
-worked : Settles decisions.worked.ended decisions.worked.Reads.Asked decisions.worked.Reads.Learnt
+worked : Settles decisions_contracts.worked.ended decisions.worked.Reads.Asked decisions.worked.Reads.Learnt
 worked κs a = settled (λ x v p. (p, refl))
 
 -- The public function of crate texts is settled.
-listing : Settles texts.listing.ended texts.listing.Reads.Asked texts.listing.Reads.Learnt
+listing : Settles texts_contracts.listing.ended texts.listing.Reads.Asked texts.listing.Reads.Learnt
 listing κs a = settled (λ x v p. (p, refl))
 
 -- The public functions of crate node are settled: the answer, and what is left in each lent buffer.
-pub node_admit : Settles node.node_admit.ended node.node_admit.Reads.Asked node.node_admit.Reads.Learnt
+pub node_admit : Settles node_contracts.node_admit.ended node.node_admit.Reads.Asked node.node_admit.Reads.Learnt
 node_admit κs a = settled (λ x v p. (p.0, λ i. (tt, (p.1 i, tt))))
 
-pub node_start : Settles node.node_start.ended node.node_start.Reads.Asked node.node_start.Reads.Learnt
+pub node_start : Settles node_contracts.node_start.ended node.node_start.Reads.Asked node.node_start.Reads.Learnt
 node_start κs a = settled (λ x v p. (p.0, λ i. (tt, (tt, (p.1 i, tt)))))
 
-pub node_release : Settles node.node_release.ended node.node_release.Reads.Asked node.node_release.Reads.Learnt
+pub node_release : Settles node_contracts.node_release.ended node.node_release.Reads.Asked node.node_release.Reads.Learnt
 node_release κs a = settled (λ x v p. (p.0, λ i. (p.1 i, (tt, (tt, tt)))))
 
-pub node_step : Settles node.node_step.ended node.node_step.Reads.Asked node.node_step.Reads.Learnt
+pub node_step : Settles node_contracts.node_step.ended node.node_step.Reads.Asked node.node_step.Reads.Learnt
 node_step κs a = settled (λ x v p. (p.0, λ i. (p.1 i, (p.2 i, tt))))
 
-pub node_energy : Settles node.node_energy.ended node.node_energy.Reads.Asked node.node_energy.Reads.Learnt
+pub node_energy : Settles node_contracts.node_energy.ended node.node_energy.Reads.Asked node.node_energy.Reads.Learnt
 node_energy κs a = settled (λ x v p. (p, refl))
