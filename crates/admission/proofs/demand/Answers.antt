@@ -17,7 +17,8 @@ pub jobs_above-above-requires : goal.jobs_above-above-requires
 jobs_above-above-requires c =
     let t = c.requires.0 in
     let parts = parts_small c.args.table.now c.args.i c.args.w c.requires.0 c.requires.1 in
-    (record { all = t.all; reads = t.reads; enough = omega (arith, t.enough) }, rw (c.ceil-k.ensures, c.record_at-sleep.ensures) parts.span)
+    let span : c.ceil-k.result * c.record_at-sleep.result.period ≤ 120000 = rw (c.ceil-k.ensures, c.record_at-sleep.ensures) parts.span in
+    (record { all = t.all; reads = t.reads; enough = omega (arith, t.enough) }, omega arith)
 
 pub overflow_mul-result : goal.overflow_mul-result
 overflow_mul-result c =

@@ -18,7 +18,7 @@ overflow_mul-sum c =
     let p = period_at c.args.table.now c.args.i c.requires.0 j (omega arith) in
     let w = work_at c.args.table.now c.args.i c.requires.0 j (omega arith) in
     let job : c.record_at-task.result.work * c.ceil.result ≡ (rules_of c.args.table.now).C j * ceil c.args.span ((rules_of c.args.table.now).T j) =
-        rw (w, p, c.ceil.ensures, c.record_at-task.ensures) in
+    rw (w, p, c.ceil.ensures, c.record_at-task.ensures) in
     omega (arith, job, c.requires.1, term_most (rules_of c.args.table.now) (table_small c.args.table.now c.args.i c.requires.0) j c.args.span)
 
 pub overflow_add-sum : goal.overflow_add-sum
@@ -27,7 +27,7 @@ overflow_add-sum c =
     let p = period_at c.args.table.now c.args.i c.requires.0 j (omega arith) in
     let w = work_at c.args.table.now c.args.i c.requires.0 j (omega arith) in
     let job : c.record_at-task.result.work * c.ceil.result ≡ (rules_of c.args.table.now).C j * ceil c.args.span ((rules_of c.args.table.now).T j) =
-        rw (w, p, c.ceil.ensures, c.record_at-task.ensures) in
+    rw (w, p, c.ceil.ensures, c.record_at-task.ensures) in
     let small = table_small c.args.table.now c.args.i c.requires.0 in
     let sum : c.loop-j.sum ≤ 180000 * j = rw c.loop-j.invariant.1 (terms_most (rules_of c.args.table.now) small j c.args.span c.requires.1) in
     omega (arith, job, c.requires.1, sum, few_tasks c.args.table.now c.args.i c.requires.0, term_most (rules_of c.args.table.now) small j c.args.span)
