@@ -6,6 +6,7 @@
 use admission::{Answer, admit};
 use decisions::{Job, Tally, Tick};
 use scheduler::{State, Ticked, release, start, step_on};
+use std::io;
 use table::tell;
 
 const HOUSE: [u8; 80] =
@@ -38,23 +39,23 @@ const THREE_IN_4: [u8; 32] =
 const ONE_IN_5: [u8; 48] =
     *b"\0\0\0\0\x01\0\0\0\x04\0\0\0\0\0\0\0\x01\0\0\0\x01\0\0\0\x04\0\0\0\0\0\0\0\x02\0\0\0\x01\0\0\0\x05\0\0\0\0\0\0\0";
 
-fn main() {
-    show(b"A: the house table\n", &HOUSE);
-    show(b"D: the source's Table I\n", &TABLE_1);
-    show(b"G: 1 in 2\n", &ONE_IN_2);
-    show(b"G: 2 in 4\n", &TWO_IN_4);
-    show(b"H: 1 in 6\n", &ONE_IN_6);
-    show(b"three tasks: 1 in 4, 1 in 7, 2 in 11\n", &THREE);
-    show(b"E: the source's Figure 1\n", &FIGURE_1);
-    show(b"F: the source's Figure 3\n", &FIGURE_3);
-    show(b"G: 3 in 4\n", &THREE_IN_4);
-    show(b"H: 1 in 5\n", &ONE_IN_5);
+fn main(rt: HostRuntime) -> io::Result<()> {
+    show(&rt, b"A: the house table\n", &HOUSE)?;
+    show(&rt, b"D: the source's Table I\n", &TABLE_1)?;
+    show(&rt, b"G: 1 in 2\n", &ONE_IN_2)?;
+    show(&rt, b"G: 2 in 4\n", &TWO_IN_4)?;
+    show(&rt, b"H: 1 in 6\n", &ONE_IN_6)?;
+    show(&rt, b"three tasks: 1 in 4, 1 in 7, 2 in 11\n", &THREE)?;
+    show(&rt, b"E: the source's Figure 1\n", &FIGURE_1)?;
+    show(&rt, b"F: the source's Figure 3\n", &FIGURE_3)?;
+    show(&rt, b"G: 3 in 4\n", &THREE_IN_4)?;
+    show(&rt, b"H: 1 in 5\n", &ONE_IN_5)
 }
 
 // A line is written for each task that follows the pattern: number, figure (0 for the failing one),
 // largest response, and whether one was longer than its period.
-fn show(name: &[u8], table: &[u8]) {
-    io::write_all(1, name);
+fn show(rt: &impl Print, name: &[u8], table: &[u8]) -> io::Result<()> {
+    rt.write_all(name)?;
     let verdict = admit(table);
     let answer = verdict.answer;
     let figures = verdict.figures;
@@ -67,20 +68,27 @@ fn show(name: &[u8], table: &[u8]) {
         if i < count {
             let e = state.entries[i as usize];
             let task = e.task;
-            lined(i + 1, figures[i as usize], most[i as usize], task.period);
+            lined(
+                rt,
+                i + 1,
+                figures[i as usize],
+                most[i as usize],
+                task.period,
+            )?;
         }
         i += 1;
     }
+    Ok(())
 }
 
-fn lined(task: u32, figure: u32, most: u32, period: u32) {
-    number(task);
-    number(figure);
-    number(most);
+fn lined(rt: &impl Print, task: u32, figure: u32, most: u32, period: u32) -> io::Result<()> {
+    number(rt, task)?;
+    number(rt, figure)?;
+    number(rt, most)?;
     if period < most {
-        io::write_all(1, b"late\n");
+        rt.write_all(b"late\n")
     } else {
-        io::write_all(1, b"in time\n");
+        rt.write_all(b"in time\n")
     }
 }
 
@@ -203,7 +211,6 @@ fn due(t: u32, offset: u32, period: u32) -> bool {
     (t - offset) % period == 0
 }
 
-fn number(n: u32) {
-    io::print_decimal(1, n as u64);
-    io::write_all(1, b" ");
+fn number(rt: &impl Print, n: u32) -> io::Result<()> {
+    print!(rt; "{n} ")
 }
