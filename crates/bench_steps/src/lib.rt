@@ -1,5 +1,6 @@
 // This is for the bench alone: many steps are made inside one call, so that the step is measured
-// without the cost of a call from outside; on words, and with the state by value.
+// without the cost of a call from outside; on words, and with the state by value. Crate
+// bench_steps_c exports both.
 #![tactic(auto)]
 
 ghost use Rattle.std.specs.Prelude.{◌≡◌};

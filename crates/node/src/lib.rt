@@ -1,7 +1,7 @@
-// This is the scheduler for firmware: calls on numbers and slices, exported for C. State and tally
-// lie in buffers of 32-bit words that the caller lends, and every call works where they stand.
-// specs/Layout.antt is the layout of a buffer, specs/Calls.antt says what each call gives, and
-// include/node.h says both for C.
+// This is the scheduler for firmware: calls on numbers and slices, which crate node_c exports for C.
+// State and tally lie in buffers of 32-bit words that the caller lends, and every call works where
+// they stand. specs/Layout.antt is the layout of a buffer, specs/Calls.antt says what each call
+// gives, and include/node.h says both for C.
 #![tactic(auto)]
 
 ghost use Rattle.std.specs.Prelude.{◌≡◌, true, [], ◌∷◌, ◌+◌, ◌-◌, ◌≤◌, ◌<◌, length, get_or, set};
