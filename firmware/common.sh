@@ -12,8 +12,8 @@ die() {
 find_kit() {
     command -v rt >/dev/null 2>&1 ||
         die 'the Rattle toolchain is missing: its command rt is not on the PATH'
-    kit=$(dirname "$(dirname "$(rt doc)")")
-    machine=$(uname -m)
-    tools=$kit/on/$machine/toolchain
-    [ -x "$tools/bin/clang" ] || die "the Rattle toolchain has no compiler for $machine machines"
+    kit=$(dirname "$(rt doc)")
+    tools=$kit/toolchain
+    "$tools/bin/clang" --version >/dev/null 2>&1 ||
+        die "the Rattle toolchain has no compiler that runs on this machine, $(uname -m)"
 }
