@@ -1,8 +1,8 @@
 -- DEMAND 1 stands here on one page: the record `Demand1` has the user's words, a field for each sentence; the records
--- above it say what we make of them, call by call, and `demand_1` shows that all of it holds. What a number means is
--- `told_of` (table/specs/Refusals.antt); when a refusal applies is said in the words of RULES 3.1, column "applies when"
--- (specs/Applies.antt of table, admission and scheduler), and `Lowest` is RULES 3.2.
-use Rattle.std.specs.Prelude.{ℕ, ◌%◌, ◌≤◌, ◌≡◌, refl, ◌↔◌, List}
+-- above it say what we make of them, call by call, and `demand_1` (proofs/Demand1.antt) shows that all of it holds. What
+-- a number means is `told_of` (table/specs/Refusals.antt); when a refusal applies is said in the words of RULES 3.1,
+-- column "applies when" (specs/Applies.antt of table, admission and scheduler), and `Lowest` is RULES 3.2.
+use Rattle.std.specs.Prelude.{ℕ, ◌%◌, ◌≤◌, ◌≡◌, ◌↔◌, List}
 use Rattle.table.specs.declared.Refusal.{Refusal}
 use Rattle.table.specs.declared.Refusal.TheVariants.{Unfit}
 use Rattle.table.specs.Refusals.{told_of}
@@ -10,7 +10,6 @@ use Rattle.table.specs.Applies.{Lowest}
 use Rattle.admission.specs.declared.Answer.TheVariants as verdict
 use Rattle.admission.specs.Applies.{AdmissionApplies}
 use Rattle.admission.specs.Verdicts.{admit_of}
-use Rattle.admission.proofs.RefusedLaws.{admission_refused_exactly}
 use Rattle.admission.proofs as admission
 use Rattle.admission.specs.contracts as admission_contracts
 use Rattle.scheduler.specs.declared.State.{State}
@@ -22,21 +21,14 @@ use Rattle.scheduler.specs.Releases.{release_of}
 use Rattle.scheduler.specs.Steps.{step_of}
 use Rattle.decisions.specs.Energies.{energy_of}
 use Rattle.scheduler.specs.Applies.{StartApplies, ReleaseApplies, StepApplies, EnergyApplies}
-use Rattle.scheduler.proofs.ReleaseLaws.{release_refused}
-use Rattle.scheduler.proofs.StepLaws.{step_refused}
-use Rattle.scheduler.proofs.StartLaws.{no_state_refused}
-use Rattle.scheduler.proofs.RefusalLaws.{energy_refused}
-use Rattle.scheduler.proofs.AnswerLaws as laws
 use Rattle.decisions.proofs as decisions
 use Rattle.decisions.specs.contracts as decisions_contracts
 use Rattle.scheduler.proofs as scheduler
 use Rattle.scheduler.specs.contracts as scheduler_contracts
 use Rattle.node.specs.Calls.{admit_on, start_on, release_on, step_on}
-use Rattle.node.proofs.CallLaws as on
 use Rattle.node.proofs as node
 use Rattle.node.specs.contracts as node_contracts
 use Rattle.promises.specs.Settled.{Settles}
-use Rattle.promises.specs.Settled as settled
 
 -- Any input may be handed in: the contract of a call asks nothing of its arguments and allows one result alone, what is
 -- left in the lent buffers included (`Settles`). That the call does nothing undefined and ends is what the proof of each
@@ -87,38 +79,3 @@ pub record Demand1 : Type 0 where
   pub bad_input_is_refused_by_number : RefusedByNumber
   -- with the state and every lent record unchanged."
   pub all_is_left_unchanged : Unchanged
-
--- DEMAND 1 HOLDS.
-pub demand_1 : Demand1
-demand_1 = record {
-  any_input_may_be_handed = record {
-    any_table_may_be_admitted = settled.admit;
-    any_table_may_be_started = settled.start;
-    any_release_may_be_made = settled.release;
-    any_step_may_be_made = settled.step;
-    any_tally_may_be_read = settled.energy;
-    any_words_may_be_admitted = settled.node_admit;
-    any_words_may_be_started = settled.node_start;
-    any_words_may_be_released = settled.node_release;
-    any_words_may_be_stepped = settled.node_step;
-    any_words_may_be_read = settled.node_energy;
-  };
-  bad_input_is_refused_by_number = record {
-    admission_is_refused = admission_refused_exactly;
-    start_is_refused = laws.start_refused_exactly;
-    release_is_refused = laws.release_refused_exactly;
-    step_is_refused = laws.step_refused_exactly;
-    energy_is_refused = laws.energy_refused_exactly;
-  };
-  all_is_left_unchanged = record {
-    release_unchanged = release_refused;
-    step_unchanged = step_refused;
-    start_gives_no_state = laws.start_refused;
-    no_state_gets_6 = λ task demand t. let f = no_state_refused task demand t in (f.0, f.1, refl);
-    energy_zero = λ t run sleep waking r e. (energy_refused t run sleep waking r e).0;
-    admit_leaves_words = on.admit_leaves;
-    start_leaves_words = on.start_leaves;
-    release_leaves_words = on.release_leaves;
-    step_leaves_words = on.step_leaves;
-  };
-}

@@ -31,7 +31,6 @@ use Rattle.admission.proofs.AdmitLaws.{admit_says, refused_exactly}
 use Rattle.decisions.specs.declared.Job.TheVariants.{Resting, Working}
 use Rattle.scheduler.specs.declared.State.{State}
 use Rattle.decisions.specs.declared.Tally.{Tally}
-use Rattle.decisions.specs.declared.Tick.{Tick}
 use Rattle.decisions.specs.declared.Tick.TheVariants.{Run, Tail}
 use Rattle.scheduler.specs.declared.Ticked.TheVariants as ticked
 use Rattle.decisions.specs.Fits.{clock_end, no_entry}

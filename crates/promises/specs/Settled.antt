@@ -6,13 +6,9 @@
 -- Every public function stands here once, in the order of its crate; `tools/settled` names one that does not.
 use Rattle.std.specs.Prelude.{◌≡◌, refl}
 use Rattle.std.proofs.Common.{sym, ◌∙◌}
-use base.Logic.{emp}
 use contract.Lifetimes.{Lfts}
 use denote.Triple.Entry.{Args, Res}
-use denote.Triple.Clauses.{Ended, Clauses, Lasts, AtExit, at_exit}
-use borrow.Fn.World.{World}
-use borrow.Fn.Claims.{AllOf}
-use borrow.Fn.Read.{all_models, no_know, r_top, r_last}
+use denote.Triple.Clauses.{Ended, Lasts, AtExit, at_exit}
 use Rattle.table.proofs as table
 use Rattle.table.specs.contracts as table_contracts
 use Rattle.admission.proofs as admission

@@ -1,5 +1,5 @@
--- No sentence of the demands is vacuous: each theorem that has hypotheses is used here, or in HouseJobs.antt, with all of
--- them met, on the house table or on a set that is refused.
+-- No sentence of the demands is vacuous: each theorem that has hypotheses is used here, in HouseJobs.antt or in
+-- proofs/UsesOfDemand1.antt, with all of them met, on the house table or on a set that is refused.
 use Rattle.std.specs.Prelude.{ℕ, ◌+◌, ◌≤◌, ◌<◌, ◌≡◌, refl, List, [], ◌∷◌, ◌++◌, true, length, replicate}
 use Rattle.std.proofs.Common.{ap, sym, ◌∙◌, arith}
 use Rattle.base.specs.First.{first_from}
@@ -13,19 +13,17 @@ use Rattle.theory.specs.Rounds.{found, rounds, outcome, Window}
 use Rattle.theory.specs.Pattern.{offset}
 use Rattle.theory.specs.Boundary.{boundary}
 use Rattle.theory.proofs.RoundsLaws.{outcome_says, found_window}
-use Rattle.table.specs.declared.Refusal.TheVariants.{Length, NoWindow, Unfit, OffBoundary, Power, LongWaking}
+use Rattle.table.specs.declared.Refusal.TheVariants.{Length, NoWindow, Unfit, OffBoundary, LongWaking}
 use Rattle.table.specs.declared.Reading.TheVariants as read
 use Rattle.table.specs.Bytes.{word_at, record_at}
 use Rattle.table.specs.Sound.{places, ask_records, ask_order, ask_sleep, read_of}
-use Rattle.table.specs.Refusals.{admission_gives, start_gives, release_gives, step_gives, energy_gives}
-use Rattle.table.specs.Applies.{Lowest}
+use Rattle.table.specs.Refusals.{admission_gives, start_gives}
 use Rattle.table.specs.Set.{rules_of}
 use Rattle.admission.specs.declared.Answer.TheVariants.{Admitted, Refused}
 use Rattle.table.specs.Times.{waiting, release_time}
 use Rattle.admission.specs.Figure.{limit}
 use Rattle.admission.specs.Says.{HasWindow, Judged}
-use Rattle.admission.specs.Verdicts.{verdict, walk_from, zeros, admit_of}
-use Rattle.admission.specs.Applies.{AdmissionApplies}
+use Rattle.admission.specs.Verdicts.{walk_from, admit_of}
 use Rattle.decisions.specs.declared.Job.TheVariants.{Resting, Working}
 use Rattle.decisions.specs.declared.Tally.{Tally}
 use Rattle.decisions.specs.declared.Tick.TheVariants.{Run, Slot, Tail}
@@ -37,20 +35,19 @@ use Rattle.decisions.specs.Asks.{ask_demand, ask_task, may_release}
 use Rattle.scheduler.specs.Releases.{release_answer, release_of}
 use Rattle.scheduler.specs.Steps.{tick_of, made, step_of}
 use Rattle.decisions.specs.Energies.{energy_of}
-use Rattle.scheduler.specs.Applies.{StartApplies, Startable, ReleaseApplies, StepApplies, EnergyApplies, RulesKept}
+use Rattle.scheduler.specs.Applies.{Startable, RulesKept}
 use Rattle.scheduler.specs.Fresh.{Fresh}
 use Rattle.scheduler.specs.MayRun.{MayRun}
 use Rattle.histories.specs.History.{Own, Call, release, step, Finish, Past, next, after, history, left_in, AtWork}
-use Rattle.scheduler.specs.Starts.{Given, read_given, no_state, start_of, IsStarted}
+use Rattle.scheduler.specs.Starts.{Given, read_given, start_of, IsStarted}
 use Rattle.scheduler.proofs.GivenLaws.{given_startable}
 use Rattle.histories.proofs.HistoryLaws.{history_kept}
 use Rattle.bridge.specs.Runs.{rules_sound}
 use Rattle.node.specs.Layout.{state_words, tally_words, state_in, tally_in, encoded}
-use Rattle.node.specs.Calls.{admit_on, start_on, released_on, release_on, moved_on, step_on}
+use Rattle.node.specs.Calls.{start_on, released_on, release_on, moved_on, step_on}
 use Rattle.node.specs.Saved.{called_all, saved, restored}
 use Rattle.promises.specs.Cases.{◌per◌, bytes_of}
-use Rattle.promises.specs.Answers.{admission_gives_lem, start_gives_lem, release_gives_lem, step_gives_lem, energy_gives_lem, unsound_refused, start_hands_back, release_is_accepted, state_keeps_its_rules, rules_are_kept, no_release_gets_6, no_step_gets_6, every_step_answers_a_tick}
-use Rattle.promises.specs.Demand1.{RefusedByNumber, Unchanged, demand_1}
+use Rattle.promises.specs.Answers.{admission_gives_lem, start_gives_lem, start_hands_back, release_is_accepted, state_keeps_its_rules, rules_are_kept, no_release_gets_6, no_step_gets_6, every_step_answers_a_tick}
 use Rattle.promises.specs.Demand2.{TickIs, Reported, demand_2}
 use Rattle.promises.specs.Demand3.{figure_of, worst, FirstFailing, any_state_rests, one_window_is_enough, every_finish_is_within, pattern_is_accepted, figure_is_reached, figure_is_enough, demand_3}
 use Rattle.promises.specs.Waking.{given}
@@ -115,95 +112,38 @@ eight_own = (tt, (tt, (tt, (tt, (tt, (tt, (tt, (tt, tt))))))))
 eight_kept : RulesKept (history house eight).state (history house eight).tally
 eight_kept = rules_are_kept house eight house_starts eight_own
 
--- These are the parts of demands 1 and 2 that have several sentences, and tick 8 in words.
-numbers : RefusedByNumber
-numbers = demand_1.bad_input_is_refused_by_number
-
-unchanged : Unchanged
-unchanged = demand_1.all_is_left_unchanged
-
+-- These are the part of demand 2 that has several sentences, and tick 8 in words.
 reported : Reported
 reported = demand_2.what_is_reported_is_defined
 
 eight_tick : TickIs (history house eight).state (history house eight).tally
 eight_tick = demand_2.each_tick_is_the_defined_one (history house eight).state (history house eight).tally eight_kept (omega (arith, house_tail.1))
 
--- DEMAND 1 is used. Figure 1 is refused with 5 at task 2, which is the first without a window.
-figure_1_five : Lowest (AdmissionApplies figure_1.table) (NoWindow 2 1)
-figure_1_five = (numbers.admission_is_refused figure_1.table (NoWindow 2 1)).0 figure_1_refused
-
--- No bytes are refused with 1, by a start and by admission, with zeros, a state of no tasks and the words as they were.
-nothing_is_read : read_of [] ≡ read.Refused Length
+-- No bytes are refused with 1, by a start and by admission (proofs/UsesOfDemand1.antt says what comes back).
+pub nothing_is_read : read_of [] ≡ read.Refused Length
 unfolding read_of
 nothing_is_read = refl
-
-nothing_is_refused : Lowest (StartApplies (given [] 0)) Length
-unfolding read_given
-nothing_is_refused = (numbers.start_is_refused (given [] 0) Length).0 (rw nothing_is_read)
 
 nothing_is_given : (admission_gives Length ≡ true) × (start_gives Length ≡ true)
 unfolding read_given
 nothing_is_given = (admission_gives_lem [] Length (rw nothing_is_read), start_gives_lem (given [] 0) Length (rw nothing_is_read))
 
-nothing_hands_back : (admit_of [] ≡ verdict (Refused Length) zeros zeros zeros) × ((start_of (given [] 0)).state ≡ no_state)
-unfolding read_given
-nothing_hands_back = (unsound_refused [] Length nothing_is_read, unchanged.start_gives_no_state (given [] 0) Length (rw nothing_is_read))
-
-nothing_leaves_words : ((admit_on [] (7 ∷ [])).verdict ≡ 7 ∷ []) × ((start_on (given [] 0) (7 ∷ [])).state ≡ 7 ∷ [])
-unfolding read_of read_given
-nothing_leaves_words = (unchanged.admit_leaves_words [] (7 ∷ []) (omega arith) (λ e. omega arith), unchanged.start_leaves_words (given [] 0) (7 ∷ []) (omega arith))
-
--- At tick 8 a release of task 1 is refused with 10, since 8 is no multiple of 20, and leaves the state.
-house_off_boundary : (release_of (history house eight).state 1 2).answer ≡ answer.Refused OffBoundary
+-- At tick 8 a release of task 1 is refused with 10, since 8 is no multiple of 20.
+pub house_off_boundary : (release_of (history house eight).state 1 2).answer ≡ answer.Refused OffBoundary
 unfolding eight house bytes_of word_at record_at first_from ask_records ask_order ask_sleep read_of read_given ceil ready every record_in period_before state_fits entries_of step_of next folded release_time ask_demand ask_task may_release release_answer
 house_off_boundary = refl
 
-house_off_boundary_is_ten : Lowest (ReleaseApplies (history house eight).state 1 2) OffBoundary × (release_gives OffBoundary ≡ true) × ((release_of (history house eight).state 1 2).state ≡ (history house eight).state)
-house_off_boundary_is_ten = (
-  (numbers.release_is_refused (history house eight).state 1 2 OffBoundary).0 house_off_boundary,
-  release_gives_lem (history house eight).state 1 2 OffBoundary house_off_boundary,
-  unchanged.release_unchanged (history house eight).state 1 2 OffBoundary house_off_boundary,
-)
-
--- At tick 8 a step that is lent a tally of zeros is refused with 6, and leaves state and tally.
-house_wrong_tally : (step_of (history house eight).state no_ticks).answer ≡ ticked.Refused Unfit
+-- At tick 8 a step that is lent a tally of zeros is refused with 6.
+pub house_wrong_tally : (step_of (history house eight).state no_ticks).answer ≡ ticked.Refused Unfit
 unfolding eight house bytes_of word_at record_at first_from ask_records ask_order ask_sleep read_of read_given ceil ready every record_in period_before state_fits entries_of step_of next folded
 house_wrong_tally = refl
-
-house_wrong_tally_is_six : Lowest (StepApplies (history house eight).state no_ticks) Unfit × (step_gives Unfit ≡ true)
-    × (((step_of (history house eight).state no_ticks).state ≡ (history house eight).state) × ((step_of (history house eight).state no_ticks).tally ≡ no_ticks))
-house_wrong_tally_is_six = (
-  (numbers.step_is_refused (history house eight).state no_ticks Unfit).0 house_wrong_tally,
-  step_gives_lem (history house eight).state no_ticks Unfit house_wrong_tally,
-  unchanged.step_unchanged (history house eight).state no_ticks Unfit house_wrong_tally,
-)
-
--- Words that are too few encode no state, and are left as they are.
-few_words : ((release_on (7 ∷ []) 1 1).state ≡ 7 ∷ []) × (((step_on (7 ∷ []) (9 ∷ [])).state ≡ 7 ∷ []) × ((step_on (7 ∷ []) (9 ∷ [])).tally ≡ 9 ∷ []))
-unfolding release_on step_on encoded
-few_words = (unchanged.release_leaves_words (7 ∷ []) 1 1 (omega arith), unchanged.step_leaves_words (7 ∷ []) (9 ∷ []) (omega arith))
 
 -- The house table with V = 9, which is above its S, is refused with 14.
 pub long_waking : (start_of (given house.table 9)).answer ≡ answer.Refused LongWaking
 unfolding house bytes_of word_at record_at first_from ask_records ask_order ask_sleep read_of read_given
 long_waking = refl
 
-long_waking_is_fourteen : Lowest (StartApplies (given house.table 9)) LongWaking × (start_gives LongWaking ≡ true) × ((start_of (given house.table 9)).state ≡ no_state)
-long_waking_is_fourteen = (
-  (numbers.start_is_refused (given house.table 9) LongWaking).0 long_waking,
-  start_gives_lem (given house.table 9) LongWaking long_waking,
-  unchanged.start_gives_no_state (given house.table 9) LongWaking long_waking,
-)
-
--- A reading with a waking power of 1,000,001 microwatts is refused with 13 and is 0; case J's at 23,000, 16 and 9,000 is
--- 289,400 with V = 2.
-strong : Lowest (EnergyApplies no_ticks 23000 16 1000001) Power × (energy_gives Power ≡ true) × ((energy_of no_ticks 23000 16 1000001).nanojoules ≡ 0)
-strong = (
-  (numbers.energy_is_refused no_ticks 23000 16 1000001 Power).0 refl,
-  energy_gives_lem no_ticks 23000 16 1000001 Power refl,
-  unchanged.energy_zero no_ticks 23000 16 1000001 Power refl,
-)
-
+-- Case J's energy at 23,000, 16 and 9,000 microwatts is 289,400 with V = 2.
 energy_of_j : (energy_of (record { run = 11; slot = 12; tail = 13; waking = 4 }) 23000 16 9000).nanojoules ≡ 289400
 energy_of_j = reported.energy_is (record { run = 11; slot = 12; tail = 13; waking = 4 }) 23000 16 9000 refl
 
