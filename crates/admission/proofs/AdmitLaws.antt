@@ -123,10 +123,10 @@ refused_exactly bytes n f e = (to (admit_says bytes n e), from (admit_says bytes
 
     from : Judged R n (admit_of bytes) → ((f < n) × (HasWindow R f → ⊥) × ((i : ℕ) → i < f → HasWindow R i))
         → (rounds : ℕ) × ((admit_of bytes).answer ≡ Refused (NoWindow (f + 1) rounds))
-    from (admitted a A) (lf, none-f, below) = absurd (none-f (row_window f n lf A))
-    from (refused g k l a P A) (lf, none-f, below) =
+    from (admitted a A) (lf, none_f, below) = absurd (none_f (row_window f n lf A))
+    from (refused g k l a P A) (lf, none_f, below) =
         by_lt f g ((m : ℕ) × ((admit_of bytes).answer ≡ Refused (NoWindow (f + 1) m)))
-        (λ lt. absurd (none-f (row_window f g lt A)))
+        (λ lt. absurd (none_f (row_window f g lt A)))
         (λ ge. by_lt g f ((m : ℕ) × ((admit_of bytes).answer ≡ Refused (NoWindow (f + 1) m)))
         (λ lt. absurd (no_window g k P (below g lt)))
         (λ le. let q : g ≡ f = omega arith in (k, rw (← q) a)))

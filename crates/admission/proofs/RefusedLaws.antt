@@ -1,7 +1,7 @@
 -- An admission is refused exactly with the lowest number that applies: as its table is, or with 5 on a sound one.
 use Prim.Native.Nat.{ℕ, ◌+◌}
 use mathlib.Core.Path.{◌≡◌, refl, ap, sym, ◌∙◌}
-use mathlib.Core.Logic.{◌↔◌, ◌⊎◌, inl, inr, ⊎_elim}
+use mathlib.Core.Logic.{◌↔◌, inl, inr, ⊎_elim}
 use mathlib.Core.List.{List}
 use mathlib.Core.Bool.{true}
 use native.Mathlib.Omega.{arith}

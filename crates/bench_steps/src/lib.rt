@@ -35,7 +35,7 @@ pub fn steps_on(state: &mut [u32], tally: &mut [u32], count: u32) -> u64
 
 #[tactic(auto, unfolding(crate::specs::ManySteps::steps_of))]
 pub fn steps_by_value(table: &[u8], count: u32) -> u64
-    ensures { result ≡ counted (steps_of (start_of (record { table = table.entry.now; waking = 0 })).state count) }
+    ensures { result ≡ counted (steps_of (start_of (record { table = table.now; waking = 0 })).state count) }
 {
     let started = start(table, 0);
     let mut state = started.state;

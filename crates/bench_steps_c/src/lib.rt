@@ -17,7 +17,7 @@ pub extern "C" fn steps_on(state: &mut [u32], tally: &mut [u32], count: u32) -> 
 
 #[unsafe(no_mangle)]
 pub extern "C" fn steps_by_value(table: &[u8], count: u32) -> u64
-    ensures { result ≡ counted (steps_of (start_of (record { table = table.entry.now; waking = 0 })).state count) }
+    ensures { result ≡ counted (steps_of (start_of (record { table = table.now; waking = 0 })).state count) }
 {
     bench_steps::steps_by_value(table, count)
 }

@@ -188,7 +188,7 @@ module _ (g : Given) (n : ℕ) (e : read_given g ≡ read.Sound n) (i : ℕ) (li
         clock_is = J.clock_is;
         given = λ k lk due. by_eq k j ((view_of u.state).last k ≡ theory.at t)
             (λ same.
-            let yes-due : due_at R j t ≡ true = says_due R j t (rw same at due) in
+            let yes_due : due_at R j t ≡ true = says_due R j t (rw same at due) in
             let z : ◌≡◌ {A = ℕ} 0 1 = cc in absurd (let y : ⊥ = omega arith in y))
             (λ other. J.given k (omega arith) due);
         rest = λ k x lk z. J.rest k x (omega arith) z;

@@ -7,7 +7,6 @@ use Rattle.decisions.specs.declared.Job.{Job}
 use Rattle.decisions.specs.declared.Job.TheVariants.{Resting, Working}
 use Rattle.scheduler.specs.declared.State.{State}
 use Rattle.decisions.specs.declared.Tally.{Tally}
-use Rattle.decisions.specs.declared.Tick.{Tick}
 use Rattle.decisions.specs.declared.Tick.TheVariants.{Run, Slot, Tail}
 use Rattle.scheduler.specs.declared.Ticked.{Ticked}
 use Rattle.scheduler.specs.declared.Ticked.TheVariants as ticked

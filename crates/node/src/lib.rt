@@ -103,8 +103,8 @@ pub fn node_admit(table: &[u8], verdict: &mut [u32]) -> u64
 
 // `node_start` writes a fresh state of a table and a waking length, whole.
 pub fn node_start(table: &[u8], waking: u32, state: &mut [u32]) -> u64
-    ensures { (result ≡ (start_on (record { table = table.entry.now; waking = waking }) state.old).answer)
-        × (state.new ≡ (start_on (record { table = table.entry.now; waking = waking }) state.old).state) }
+    ensures { (result ≡ (start_on (record { table = table.now; waking = waking }) state.old).answer)
+        × (state.new ≡ (start_on (record { table = table.now; waking = waking }) state.old).state) }
 {
     let started = start(table, waking);
     let answer = started.answer;

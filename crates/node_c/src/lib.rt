@@ -15,8 +15,8 @@ pub extern "C" fn node_admit(table: &[u8], verdict: &mut [u32]) -> u64
 
 #[unsafe(no_mangle)]
 pub extern "C" fn node_start(table: &[u8], waking: u32, state: &mut [u32]) -> u64
-    ensures { (result ≡ (start_on (record { table = table.entry.now; waking = waking }) state.old).answer)
-        × (state.new ≡ (start_on (record { table = table.entry.now; waking = waking }) state.old).state) }
+    ensures { (result ≡ (start_on (record { table = table.now; waking = waking }) state.old).answer)
+        × (state.new ≡ (start_on (record { table = table.now; waking = waking }) state.old).state) }
 {
     node::node_start(table, waking, state)
 }

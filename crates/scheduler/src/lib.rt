@@ -67,7 +67,7 @@ pub struct Moved {
 // refuses. Refusal 5 is not given here.
 #[tactic(auto, using(crate::proofs::GivenLaws::given_set))]
 pub fn start(table: &[u8], waking: u32) -> Started
-    ensures { result ≡ start_of (record { table = table.entry.now; waking = waking }) }
+    ensures { result ≡ start_of (record { table = table.now; waking = waking }) }
 {
     let reading = read_given(table, waking);
     match reading {
@@ -179,7 +179,7 @@ pub fn step_on(state: State, tally: Tally) -> Moved
 // `read_given` reads what a start is given: the table's refusals come first, then 14.
 #[tactic(auto, unfolding(crate::specs::Starts::read_given))]
 fn read_given(table: &[u8], waking: u32) -> Reading
-    ensures { result ≡ read_given (record { table = table.entry.now; waking = waking }) }
+    ensures { result ≡ read_given (record { table = table.now; waking = waking }) }
 {
     let reading = read(table);
     match reading {

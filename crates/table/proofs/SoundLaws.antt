@@ -107,7 +107,7 @@ sound_read bytes n S =
     rw (eq-eqb _ _ whole, le-leb _ _ two, le-leb _ _ most, count) (sound_ask (record_at bytes) n S.set)
 
 -- A reading gives four refusals, and what holds of all four holds of the one that it gives.
-module _ (P : Refusal → Type 0) (length-Has : P Length) (broken-has : (k : ℕ) → P (Broken k)) (falling-has : (k : ℕ) → P (Falling k)) (sleep-has : P Sleep) where
+module _ (P : Refusal → Type 0) (length_has : P Length) (broken_has : (k : ℕ) → P (Broken k)) (falling_has : (k : ℕ) → P (Falling k)) (sleep_has : P Sleep) where
   abbrev IfRefused : Reading → Type 0
   IfRefused (Sound n) = Unit {0}
   IfRefused (Refused refusal) = P refusal
@@ -116,10 +116,10 @@ module _ (P : Refusal → Type 0) (length-Has : P Length) (broken-has : (k : ℕ
   unfolding read_of ask_records ask_order ask_sleep
   if_refused bytes =
       either IfRefused (length_fits bytes) (ask_records set count) (Refused Length)
-      (either IfRefused (ltb (first_broken set count) count) (Refused (Broken (first_broken set count))) (ask_order set count) (broken-has _)
-      (either IfRefused (ltb (first_falling set count) count) (Refused (Falling (first_falling set count))) (ask_sleep set count) (falling-has _)
-      (either IfRefused (sleep_fits (set 0) (set 1)) (Sound (count - 1)) (Refused Sleep) tt sleep-has)))
-      length-Has
+      (either IfRefused (ltb (first_broken set count) count) (Refused (Broken (first_broken set count))) (ask_order set count) (broken_has _)
+      (either IfRefused (ltb (first_falling set count) count) (Refused (Falling (first_falling set count))) (ask_sleep set count) (falling_has _)
+      (either IfRefused (sleep_fits (set 0) (set 1)) (Sound (count - 1)) (Refused Sleep) tt sleep_has)))
+      length_has
     where
       set : ℕ → Record
       set = record_at bytes

@@ -91,8 +91,8 @@ reached_before R o i w v ok O P least after early = go (standing R o i v ok O P 
 pub late : (R : Rules) (o : ℕ → ℕ) (i d : ℕ) (v : View) → Sound R → Offsets R o → Pattern R o i v → 1 ≤ d
     → ((x : ℕ) → R.H + x ≤ o i + d → demand R i x ≤ x → ⊥) → v.clock ≡ o i + d
     → (l : ℕ) × (1 ≤ l) × (v.job i ≡ working (o i) l)
-late R o i d v ok O P d1 none-fits e = go (standing R o i v ok O P (omega arith))
+late R o i d v ok O P d1 none_fits e = go (standing R o i v ok O P (omega arith))
   where
     go : Standing R o i v → (l : ℕ) × (1 ≤ l) × (v.job i ≡ working (o i) l)
     go (at_work l p q) = (l, p, q)
-    go (fitted x h f) = absurd (none-fits x (omega arith) f)
+    go (fitted x h f) = absurd (none_fits x (omega arith) f)

@@ -11,7 +11,7 @@ use Rattle.base.proofs.SumLaws.{sum_to_mono, sum_to_zero, plus_same, plus_other,
 use Rattle.theory.specs.Round.{ceil}
 use Rattle.theory.specs.Rules.{Rules, ready, demand}
 use Rattle.theory.proofs.RoundLaws.{ceil_past, slots, slots_zero, slots_slot, slots_other, slots_most}
-use Rattle.theory.proofs.System.{Job, View, Sound, left, Allowed, Idle, Released, Slotted, Ran, Move, Fresh, Reach, resting, working, at, slotted, ran, tailed, released, ticked, start, move}
+use Rattle.theory.proofs.System.{Job, View, Sound, left, Allowed, Idle, Released, Slotted, Ran, Move, Fresh, Reach, resting, working, slotted, ran, tailed, released, ticked, start, move}
 use Rattle.theory.proofs.ReadyLaws.{ready_up, ready_near, ready_mono, ready_mod, ready_inside}
 use Rattle.theory.proofs.Reachable.{Fine, worked_same, left_worked, fine_start, fine_move, reach_fine}
 

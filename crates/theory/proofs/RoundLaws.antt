@@ -53,15 +53,15 @@ slots_zero h s p = omega (arith, ap (λ (k : ℕ). k * s) (div-eq_of_lt {n = 0} 
 pub slots_slot : (h s x : ℕ) → 1 ≤ h → s < h → x % h < s → slots h s (suc x) ≡ suc (slots h s x)
 unfolding slots
 slots_slot h s x p q r =
-    let in-h : suc (x % h) < h = omega arith in
-    omega (arith, ap (λ (k : ℕ). k * s) (div_suc_in x h p in-h), mod_suc_in x h p in-h)
+    let in_h : suc (x % h) < h = omega arith in
+    omega (arith, ap (λ (k : ℕ). k * s) (div_suc_in x h p in_h), mod_suc_in x h p in_h)
 
 -- A tick that is no slot tick leaves the count as it is.
 pub slots_other : (h s x : ℕ) → 1 ≤ h → s < h → s ≤ x % h → slots h s (suc x) ≡ slots h s x
 unfolding slots
 slots_other h s x p l q =
     by_lt (suc (x % h)) h (slots h s (suc x) ≡ slots h s x)
-    (λ in-h. omega (arith, ap (λ (k : ℕ). k * s) (div_suc_in x h p in-h), mod_suc_in x h p in-h))
+    (λ in_h. omega (arith, ap (λ (k : ℕ). k * s) (div_suc_in x h p in_h), mod_suc_in x h p in_h))
     (λ out.
     let end : suc (x % h) ≡ h = omega (arith, mod-lt x {m = h} p) in
     omega (arith, ap (λ (k : ℕ). k * s) (div_suc_end x h p end), mod_suc_end x h p end))

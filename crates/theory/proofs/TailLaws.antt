@@ -7,7 +7,7 @@ use Rattle.base.proofs.Split.{by_lt, by_eq}
 use Rattle.theory.specs.Round.{ceil}
 use Rattle.theory.specs.Rules.{Rules, ready}
 use Rattle.theory.specs.Boundary.{boundary}
-use Rattle.theory.proofs.System.{View, Sound, Idle, Ran, Tailed, Move, working, at, slotted, ran, tailed, released, ticked}
+use Rattle.theory.proofs.System.{View, Sound, Idle, Ran, Tailed, Move, working, slotted, ran, tailed, released, ticked}
 use Rattle.theory.proofs.ReadyLaws.{ready_up}
 use Rattle.theory.proofs.Reachable.{worked_same}
 

@@ -155,7 +155,7 @@ follows_release R o i v v' j d ok r f F = record {
           (λ e.
           let rest : v.job i ≡ resting = rw e r.free in
           let b : plus_at j 1 F.m i ≡ F.m i + 1 = rw e (plus_same j 1 F.m) in
-          let zero-yet : F.m i ≢ 1 = λ q. absurd (omega (arith, L.unfinished q, ap left rest)) in
+          let zero_yet : F.m i ≢ 1 = λ q. absurd (omega (arith, L.unfinished q, ap left rest)) in
           omega (arith, L.once))
           (λ n. omega (arith, L.once, plus_other j 1 F.m i n));
       unfinished = λ h. by_eq i j (1 ≤ left (v'.job i))

@@ -1,7 +1,6 @@
 -- The parts of the demand are those of the definition, and small.
 use Rattle.std.proofs.Common.{◌+◌, ◌*◌, ◌≤◌, arith}
-use Rattle.table.specs.Set.{rules_of}
-use Rattle.admission.proofs.DemandLaws.{Parts, parts_small, terms_most, table_small, few_tasks, work_at, sleep_at}
+use Rattle.admission.proofs.DemandLaws.{parts_small, table_small, few_tasks, work_at, sleep_at}
 use Rattle.admission.proofs.demand.Goals as goal
 
 pub ceil-k-requires : goal.ceil-k-requires

@@ -1,7 +1,6 @@
 -- The work of task j's jobs is the term of the definition; each task adds less than its period and the span.
-use Rattle.std.proofs.Common.{◌+◌, ◌*◌, ◌≤◌, ◌≡◌, arith}
+use Rattle.std.proofs.Common.{◌*◌, ◌≤◌, ◌≡◌, arith}
 use Rattle.theory.specs.Round.{ceil}
-use Rattle.table.specs.Bytes.{record_at}
 use Rattle.table.specs.Set.{rules_of}
 use Rattle.admission.proofs.DemandLaws.{term_most, terms_most, table_small, few_tasks, work_at, period_at}
 use Rattle.admission.proofs.jobs_above.Goals as goal

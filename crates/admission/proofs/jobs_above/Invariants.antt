@@ -1,12 +1,7 @@
 -- `admission::jobs_above` meets its contract. The sum so far is that of the tasks passed; each task adds less than its
-use Prim.Native.Nat.{◌≤◌, ◌-◌, ◌*◌, ◌+◌}
-use borrow.Author.Rules.{rules}
+use Prim.Native.Nat.{◌≤◌, ◌-◌, ◌*◌}
 use mathlib.Core.Path.{◌≡◌}
-use native.Mathlib.Numerals.{add-one}
-use native.Mathlib.Omega.{arith}
 use Rattle.base.specs.Sum.{sum_to}
-use Rattle.admission.proofs.DemandLaws.{term_most, terms_most, table_small, few_tasks, work_at, period_at}
-use Rattle.table.specs.Bytes.{record_at}
 use Rattle.table.specs.Set.{rules_of}
 use Rattle.theory.specs.Round.{ceil}
 use Rattle.admission.proofs.jobs_above.Given as goal

@@ -1,8 +1,5 @@
 -- `bench_steps::steps_by_value` meets its contract: after i turns i steps are made.
-use borrow.Author.Rules.{rules}
-use mathlib.Core.Path.{◌≡◌, refl}
-use native.Mathlib.Numerals.{add-one}
-use native.Mathlib.Omega.{arith}
+use mathlib.Core.Path.{◌≡◌}
 use Prim.Native.Nat.{◌-◌, ◌≤◌}
 use Rattle.bench_steps.specs.ManySteps.{steps_of}
 use Rattle.bench_steps.proofs.steps_by_value.Given as goal

@@ -1,12 +1,7 @@
 -- `bench_steps::steps_on` meets its contract: after i turns i steps are made.
-use borrow.Author.Rules.{rules}
 use lib.ListN.{length}
-use mathlib.Core.List.{List}
-use mathlib.Core.Path.{◌≡◌, refl, ◌∙◌}
-use native.Mathlib.Numerals.{add-one}
-use native.Mathlib.Omega.{arith}
-use Prim.Native.Nat.{ℕ, ◌+◌, ◌-◌, ◌≤◌}
-use Rattle.node.specs.Calls.{step_on}
+use mathlib.Core.Path.{◌≡◌}
+use Prim.Native.Nat.{◌-◌, ◌≤◌}
 use Rattle.bench_steps.specs.ManySteps.{steps_on}
 use Rattle.bench_steps.proofs.steps_on.Given as goal
 

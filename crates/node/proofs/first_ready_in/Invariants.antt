@@ -1,18 +1,13 @@
 -- `node::first_ready_in` meets its contract: what is left of the search, from i on, finds what the whole search finds.
-use borrow.Author.Rules.{rules}
 use lib.ListN.{get_or}
 use mathlib.Core.Bool.{Bool}
 use mathlib.Core.List.{List}
-use mathlib.Core.Path.{◌≡◌, sym, ◌∙◌, ap}
-use native.Mathlib.Omega.{arith}
+use mathlib.Core.Path.{◌≡◌}
 use Prim.Native.Nat.{ℕ, ◌-◌, ◌≤◌}
 use Rattle.base.specs.First.{first_from}
-use Rattle.base.proofs.FirstLaws.{first_on, first_here, first_end}
-use Rattle.decisions.specs.declared.Entry.{Entry}
 use Rattle.decisions.specs.Fits.{no_entry}
 use Rattle.decisions.specs.Ticks.{came}
 use Rattle.node.specs.Layout.{entries_in}
-use Rattle.node.proofs.LayoutLaws.{entry_is}
 use Rattle.node.proofs.first_ready_in.Given as goal
 
 -- `came_place` is the test of place i.

@@ -1,12 +1,12 @@
 -- The clock, and in a run the words of the task that ran, one of 1 to 16.
-use Rattle.std.proofs.Common.{◌≡◌, ◌+◌, ◌-◌, ◌≤◌, arith, ap, sym, ◌∙◌}
+use Rattle.std.proofs.Common.{◌+◌, ◌-◌, arith, ap, sym, ◌∙◌}
 use lib.ListN.{length-set}
 use mathlib.Core.Bool.{and-eq-true_iff}
 use Rattle.decisions.specs.declared.Head.{Head}
 use Rattle.scheduler.specs.States.{state_fits}
 use Rattle.scheduler.proofs.StateLaws.{fits_says}
 use Rattle.scheduler.proofs.TickLaws.{run_is_task}
-use Rattle.node.specs.Layout.{clock_at, word_in, state_in, encoded}
+use Rattle.node.specs.Layout.{clock_at, state_in, encoded}
 use Rattle.node.proofs.LayoutLaws.{run_put}
 use Rattle.node.proofs.move_on.Goals as goal
 

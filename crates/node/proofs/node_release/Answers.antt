@@ -1,5 +1,5 @@
 -- Past the test of the rules the words encode a state that keeps them, and what is released is one of its tasks.
-use Rattle.std.proofs.Common.{◌≡◌, ◌≤◌, arith, sym, ◌∙◌}
+use Rattle.std.proofs.Common.{◌≡◌, arith, sym, ◌∙◌}
 use mathlib.Core.Bool.{and-eq-true_iff}
 use Rattle.scheduler.specs.States.{state_fits}
 use Rattle.scheduler.specs.Releases.{release_answer}

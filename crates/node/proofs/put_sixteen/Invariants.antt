@@ -1,14 +1,10 @@
 -- `node::put_sixteen` meets its contract: what was put so far are the first i words.
-use borrow.Author.Rules.{rules}
-use lib.ListN.{length, get_or}
-use mathlib.Core.Path.{◌≡◌, refl, sym}
-use native.Mathlib.Omega.{arith}
+use lib.ListN.{get_or}
+use mathlib.Core.Path.{◌≡◌}
 use Prim.Native.Nat.{◌-◌, ◌≤◌}
 use Rattle.table.specs.Sound.{places}
 use Rattle.node.specs.Words.{puts}
 use Rattle.base.specs.List.{list_from}
-use Rattle.node.proofs.WordLaws.{length_puts}
-use Rattle.node.proofs.LayoutLaws.{one_more_put}
 use Rattle.node.proofs.put_sixteen.Given as goal
 
 abbrev pub invariant-loop-i : goal.invariant-loop-i

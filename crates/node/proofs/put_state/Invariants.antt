@@ -1,14 +1,9 @@
 -- `node::put_state` meets its contract: the head, then the words of the first i places.
-use borrow.Author.Rules.{rules}
-use lib.ListN.{length, set, length-set}
-use mathlib.Core.Path.{◌≡◌, refl, sym, ◌∙◌}
-use native.Mathlib.Omega.{arith}
+use mathlib.Core.Path.{◌≡◌}
 use Prim.Native.Nat.{◌-◌, ◌≤◌}
 use Rattle.table.specs.Sound.{places}
 use Rattle.node.specs.Words.{puts}
-use Rattle.node.specs.Layout.{head_size, n_at, clock_at, waking_at, state_size, places_words}
-use Rattle.node.proofs.WordLaws.{length_puts}
-use Rattle.node.proofs.LayoutLaws.{place_more_put, state_put}
+use Rattle.node.specs.Layout.{head_size, places_words}
 use Rattle.node.proofs.put_state.Given as goal
 
 abbrev pub invariant-loop-i : goal.invariant-loop-i

@@ -1,14 +1,10 @@
 -- `node::spares_blank` meets its contract: the words of every place passed are 0.
-use borrow.Author.Rules.{rules}
-use borrow.Author.Tests.{eq-eqb, ne_eqb}
 use lib.Dec.{eqb}
 use mathlib.Core.Bool.{Bool, true}
 use mathlib.Core.List.{List}
-use mathlib.Core.Path.{◌≡◌, sym, ◌∙◌}
-use native.Mathlib.Omega.{arith}
+use mathlib.Core.Path.{◌≡◌}
 use Prim.Native.Nat.{ℕ, ◌+◌, ◌-◌, ◌≤◌}
 use Rattle.base.specs.Every.{every}
-use Rattle.base.proofs.EveryLaws.{every_more, every_not}
 use Rattle.table.specs.Sound.{places}
 use Rattle.node.specs.Layout.{place_start, any_word}
 use Rattle.node.proofs.spares_blank.Given as goal

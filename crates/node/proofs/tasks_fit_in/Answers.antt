@@ -1,5 +1,5 @@
 -- What was asked of place i is its test.
-use Rattle.std.proofs.Common.{◌≡◌, ◌+◌, add-one, arith, ap, sym, ◌∙◌}
+use Rattle.std.proofs.Common.{add-one, arith, ap, sym, ◌∙◌}
 use Rattle.base.proofs.EveryLaws.{every_more, every_not}
 use Rattle.decisions.specs.declared.Entry.{Entry}
 use Rattle.scheduler.specs.States.{period_before}

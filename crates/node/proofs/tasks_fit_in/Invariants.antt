@@ -1,20 +1,13 @@
 -- `node::tasks_fit_in` meets its contract: every task's place passed is encoded and keeps its rules.
-use borrow.Author.Rules.{rules}
-use borrow.Author.Tests.{not-true, not-false}
 use mathlib.Core.Bool.{Bool, true}
 use mathlib.Core.List.{List}
-use mathlib.Core.Path.{◌≡◌, refl, sym, ◌∙◌, ap}
-use native.Mathlib.Numerals.{add-one}
-use native.Mathlib.Omega.{arith}
+use mathlib.Core.Path.{◌≡◌}
 use Prim.Native.Nat.{ℕ, ◌-◌, ◌≤◌}
 use Rattle.base.specs.Every.{every}
-use Rattle.base.proofs.EveryLaws.{every_more, every_not}
-use Rattle.decisions.specs.declared.Entry.{Entry}
 use Rattle.decisions.specs.declared.Head.{Head}
 use Rattle.scheduler.specs.States.{period_before}
 use Rattle.node.specs.Layout.{entries_in}
 use Rattle.node.specs.Calls.{place_fits_in}
-use Rattle.node.proofs.LayoutLaws.{entry_is}
 use Rattle.node.proofs.tasks_fit_in.Given as goal
 
 -- `place` is the test of place i.

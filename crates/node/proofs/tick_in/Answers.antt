@@ -1,10 +1,9 @@
 -- Slot, run and tail are as the definition has them; the first task that may run is found by the last boundary.
-use Rattle.std.proofs.Common.{◌≡◌, arith, ap, sym, ◌∙◌}
+use Rattle.std.proofs.Common.{arith, ap, sym, ◌∙◌}
 use mathlib.Core.Bool.{and-eq-true_iff}
 use Rattle.decisions.specs.declared.Head.{Head}
-use Rattle.decisions.specs.Ticks.{in_slot}
 use Rattle.scheduler.specs.Lawful.{LawfulState}
-use Rattle.scheduler.specs.States.{head_of, record_in, state_fits}
+use Rattle.scheduler.specs.States.{record_in, state_fits}
 use Rattle.scheduler.proofs.StateLaws.{fits_says}
 use Rattle.scheduler.proofs.TickLaws.{first_ready_is}
 use Rattle.node.specs.Layout.{state_in, encoded}

@@ -1,13 +1,10 @@
 -- `scheduler::first_ready` meets its contract: the rest of the search, from i on, finds what the whole search finds.
 use Prim.Native.Nat.{ℕ, ◌-◌, ◌≤◌}
-use borrow.Author.Rules.{rules}
 use lib.ListN.{get_or}
 use mathlib.Core.Bool.{Bool}
 use mathlib.Core.List.{List}
-use mathlib.Core.Path.{◌≡◌, sym, ◌∙◌}
-use native.Mathlib.Omega.{arith}
+use mathlib.Core.Path.{◌≡◌}
 use Rattle.base.specs.First.{first_from}
-use Rattle.base.proofs.FirstLaws.{first_on, first_here, first_end}
 use Rattle.decisions.specs.Fits.{no_entry}
 use Rattle.decisions.specs.Ticks.{came}
 use Rattle.decisions.specs.declared.Entry.{Entry}

@@ -1,10 +1,6 @@
 -- `scheduler::fresh` meets its contract: the places passed hold their tasks.
 use Prim.Native.Nat.{◌-◌, ◌≤◌}
-use borrow.Author.Rules.{rules}
-use lib.ListN.{replicate}
 use mathlib.Core.Path.{◌≡◌}
-use native.Mathlib.Numerals.{add-one}
-use native.Mathlib.Omega.{arith}
 use Rattle.scheduler.specs.States.{entries_of}
 use Rattle.scheduler.proofs.fresh.Given as goal
 

@@ -1,5 +1,5 @@
 -- What was asked of place i is the definition's test.
-use Rattle.std.proofs.Common.{◌≡◌, ◌+◌, add-one, arith, sym}
+use Rattle.std.proofs.Common.{◌≡◌, add-one, arith, sym}
 use Rattle.base.proofs.EveryLaws.{every_more, every_not}
 use Rattle.scheduler.specs.States.{period_before}
 use Rattle.scheduler.proofs.places_fit.Goals as goal

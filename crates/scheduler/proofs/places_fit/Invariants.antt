@@ -1,15 +1,10 @@
 -- `scheduler::places_fit` meets its contract: every place passed keeps its rules.
 use Prim.Native.Nat.{ℕ, ◌-◌, ◌≤◌}
-use borrow.Author.Rules.{rules}
-use borrow.Author.Tests.{not-true, not-false}
 use lib.ListN.{get_or}
 use mathlib.Core.Bool.{Bool, true}
 use mathlib.Core.List.{List}
-use mathlib.Core.Path.{◌≡◌, refl, sym, ◌∙◌}
-use native.Mathlib.Numerals.{add-one}
-use native.Mathlib.Omega.{arith}
+use mathlib.Core.Path.{◌≡◌}
 use Rattle.base.specs.Every.{every}
-use Rattle.base.proofs.EveryLaws.{every_more, every_not}
 use Rattle.decisions.specs.Fits.{no_entry, place_fits}
 use Rattle.scheduler.specs.States.{period_before}
 use Rattle.decisions.specs.declared.Entry.{Entry}

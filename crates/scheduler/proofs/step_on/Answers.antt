@@ -1,9 +1,8 @@
 -- A step that may be made is one of a state that keeps its rules.
-use Rattle.std.proofs.Common.{◌≡◌, arith, sym}
+use Rattle.std.proofs.Common.{arith, sym}
 use Rattle.scheduler.specs.States.{record_in}
-use Rattle.scheduler.specs.Steps.{Ready}
 use Rattle.scheduler.proofs.StateLaws.{fits_says}
-use Rattle.scheduler.proofs.StepLaws.{MayStep, may_step_says}
+use Rattle.scheduler.proofs.StepLaws.{may_step_says}
 use Rattle.scheduler.proofs.step_on.Goals as goal
 
 pub tick_of-tick-requires : goal.tick_of-tick-requires

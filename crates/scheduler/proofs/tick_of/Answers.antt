@@ -1,5 +1,5 @@
 -- The first task that may run is found by the last boundary.
-use Rattle.std.proofs.Common.{◌≡◌, sym, ◌∙◌}
+use Rattle.std.proofs.Common.{sym, ◌∙◌}
 use Rattle.scheduler.proofs.TickLaws.{first_ready_is}
 use Rattle.scheduler.proofs.tick_of.Goals as goal
 

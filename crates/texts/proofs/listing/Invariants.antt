@@ -1,12 +1,7 @@
 -- `texts::listing` meets its contract: after the header stand the lines of the tasks passed, and the verdict is last.
-use Prim.Native.Nat.{◌-◌, ◌≤◌, ◌<◌}
-use borrow.Author.Rules.{rules}
-use mathlib.Core.Path.{◌≡◌, refl}
-use native.Mathlib.Numerals.{add-one}
-use native.Mathlib.Omega.{arith}
-use Rattle.texts.proofs.ListingLaws.{rows_few}
-use Rattle.texts.proofs.TextLaws.{shown_append}
-use Rattle.texts.specs.Listing.{lines_of, rows_shown}
+use Prim.Native.Nat.{◌-◌, ◌≤◌}
+use mathlib.Core.Path.{◌≡◌}
+use Rattle.texts.specs.Listing.{lines_of}
 use Rattle.texts.specs.Pages.{shown}
 use Rattle.texts.proofs.listing.Given as goal
 

@@ -1,11 +1,7 @@
 -- `texts::written` meets its contract: what is left of the text, written on the page so far, gives the whole.
 use Prim.Native.Nat.{◌-◌, ◌≤◌}
-use borrow.Author.Rules.{rules}
 use lib.ListN.{length, drop}
-use lib.Seq.{drop-cons, drop-length}
-use mathlib.Core.Path.{◌≡◌, refl}
-use native.Mathlib.Numerals.{add-one}
-use native.Mathlib.Omega.{arith}
+use mathlib.Core.Path.{◌≡◌}
 use Rattle.texts.specs.Pages.{shown}
 use Rattle.texts.proofs.written.Given as goal
 
