@@ -58,6 +58,13 @@ module _ (bytes : List ℕ) (i : ℕ) (t : Tasks bytes i) where
   pub period_at : (j : ℕ) → j < i → (rules_of bytes).T j ≡ (record_at bytes (j + 1)).period
   period_at j l = period_is (record_at bytes) (records_in bytes - 1) j (omega (arith, t.enough, table_set.tasks))
 
+  -- A task's work is at most the largest period, and what its jobs ask for in at most 120,000 ticks at most 180,000.
+  pub work_small : (j : ℕ) → j < i → (record_at bytes (j + 1)).work ≤ largest
+  work_small j l = omega (arith, work_at j l, table_small j)
+
+  pub jobs_small : (j x : ℕ) → j < i → x ≤ 120000 → (record_at bytes (j + 1)).work * ceil x (record_at bytes (j + 1)).period ≤ 180000
+  jobs_small j x l s = rw (← work_at j l, ← period_at j l) (omega (arith, s, term_most (rules_of bytes) table_small j x))
+
   -- A job has its period, and does not wait longer than that.
   pub waits_at : (j : ℕ) → j < i → (rules_of bytes).wait j ≤ (rules_of bytes).D j
   waits_at j l = wait_within (record_at bytes) (records_in bytes - 1) table_set.set j (omega (arith, t.enough, table_set.tasks))

@@ -28,10 +28,12 @@ use Rattle.decisions.specs.declared.Tick.{Tick}
 use Rattle.decisions.specs.declared.Tick.TheVariants.{Run, Slot, Tail}
 use Rattle.decisions.specs.Fits.{clock_end, waking_fits, head_fits}
 use Rattle.scheduler.specs.States.{head_of, entry_in, record_in, period_before, places_fit, state_fits}
+use Rattle.scheduler.specs.Lawful.{LawfulState}
 use Rattle.scheduler.specs.Starts.{Given, start_of}
 use Rattle.decisions.specs.Asks.{may_release, may_step}
 use Rattle.scheduler.specs.Releases.{release_answer, released_state}
 use Rattle.scheduler.specs.Steps.{tick_of, made, step_of}
+use Rattle.scheduler.proofs.StateLaws.{fits_says}
 use Rattle.node.specs.Layout.{head_size, state_size, tally_size, verdict_size, place_start, clock_at, word_in, record_from, state_words, entries_in, state_in, tally_in, any_word, place_encoded, encoded}
 use Rattle.node.specs.Calls.{packed, told_answer, tick_answer, StateLeft, BothLeft, start_on, admit_on, release_on, moved_on, step_on, Headed, words_fit, place_fits_in, places_fit_in, spares_blank}
 use Rattle.node.proofs.LayoutLaws.{entry_is, spare_blank, written_back, tally_written_back}
@@ -80,6 +82,12 @@ fits_parts words head H =
     swap true b c = refl
     swap false true c = refl
     swap false false c = refl
+
+-- Words that fit encode a state, and it keeps its rules.
+pub fit_says : (words : List ℕ) → words_fit words ≡ true → (encoded words ≡ true) × LawfulState (state_in words)
+fit_says words e =
+    let b = both (encoded words) (state_fits (state_in words)) e in
+    (b.0, fits_says (state_in words) b.1)
 
 -- A head that fits has no more tasks than there are places.
 pub few_tasks : (head : Head) (first : Record) → head_fits head first ≡ true → head.n ≤ places

@@ -35,6 +35,10 @@ shown_whole page (b ∷ text) W = shown_whole (put page b) text (put_whole page 
 pub blank_whole : Whole blank
 blank_whole = record { size = refl; within = omega arith }
 
+-- What is shown on a blank page has no more bytes than the page.
+pub shown_within : (text : List ℕ) → (shown blank text).len ≤ length (shown blank text).text
+shown_within text = let W = shown_whole blank text blank_whole in omega (arith, W.size, W.within)
+
 -- A byte for which there is room is written at the end of what stands there.
 put_here : (page : Page) (b : ℕ) → page.len < room → put page b ≡ record { text = set page.text page.len b; len = page.len + 1 }
 unfolding put
