@@ -48,7 +48,7 @@ pub fn admit(table: &[u8]) -> Verdict
 }
 
 // The walk goes over tasks and rounds, and stops at the first task without a window.
-#[tactic(auto, using(crate::proofs::DemandLaws::table_sound, crate::proofs::DemandLaws::table_small, crate::proofs::DemandLaws::few_tasks, crate::proofs::DemandLaws::work_at, crate::proofs::DemandLaws::sleep_at, crate::proofs::DemandLaws::limit_small, crate::proofs::WalkLaws::walk_step, theory::proofs::WindowLaws::demand_first, theory::proofs::WindowLaws::demand_mono, theory::proofs::RoundsLaws::rounds_none, theory::proofs::RoundsLaws::rounds_found, theory::proofs::RoundsLaws::rounds_go), unfolding(theory::specs::Rounds::outcome, crate::specs::Verdicts::walk_from))]
+#[tactic(auto, using(crate::proofs::DemandLaws::table_sound, crate::proofs::DemandLaws::table_small, crate::proofs::DemandLaws::few_tasks, crate::proofs::DemandLaws::work_at, crate::proofs::DemandLaws::sleep_at, crate::proofs::WalkLaws::walk_step, theory::proofs::WindowLaws::demand_first, theory::proofs::WindowLaws::demand_mono, theory::proofs::RoundsLaws::rounds_none, theory::proofs::RoundsLaws::rounds_found, theory::proofs::RoundsLaws::rounds_go), unfolding(theory::specs::Rounds::outcome, crate::specs::Verdicts::walk_from))]
 fn walk(table: &[u8], n: u32) -> Verdict
     requires { read_of table.now ≡ Sound n }
     ensures { result ≡ walk_from (rules_of table.now) n 0 zeros zeros zeros }
@@ -94,7 +94,7 @@ fn walk(table: &[u8], n: u32) -> Verdict
 }
 
 // The limit of task i's window, from 0, is the ticks that a job has, without those that it may wait.
-#[tactic(auto, using(crate::proofs::DemandLaws::period_at, crate::proofs::DemandLaws::sleep_at, crate::proofs::DemandLaws::waits_at))]
+#[tactic(auto, using(crate::proofs::DemandLaws::period_at, crate::proofs::DemandLaws::waits_at))]
 fn limit(table: &[u8], i: u32) -> u32
     requires { Tasks table.now (i + 1) }
     ensures { result ≡ admission·limit (rules_of table.now) i }
@@ -105,7 +105,7 @@ fn limit(table: &[u8], i: u32) -> u32
 }
 
 // The response figure of task i, from 0, with a window of w ticks is the window after the wait.
-#[tactic(auto, using(crate::proofs::DemandLaws::sleep_at, crate::proofs::DemandLaws::wait_small))]
+#[tactic(auto, using(crate::proofs::DemandLaws::wait_small))]
 fn figure(table: &[u8], i: u32, w: u32) -> u32
     requires { Tasks table.now (i + 1) × (w ≤ 60000) }
     ensures { result ≡ admission·figure (rules_of table.now) i w }
@@ -115,7 +115,7 @@ fn figure(table: &[u8], i: u32, w: u32) -> u32
 }
 
 // `demand` is the demand of a window of w ticks at task i, from 0.
-#[tactic(auto, using(crate::proofs::DemandLaws::parts_small, crate::proofs::DemandLaws::terms_most, crate::proofs::DemandLaws::table_small, crate::proofs::DemandLaws::few_tasks, crate::proofs::DemandLaws::work_at, crate::proofs::DemandLaws::sleep_at), unfolding(theory::specs::Rules::demand))]
+#[tactic(auto, using(crate::proofs::DemandLaws::work_at), unfolding(theory::specs::Rules::demand))]
 fn demand(table: &[u8], i: u32, w: u32) -> u32
     requires { Tasks table.now (i + 1) × (w ≤ 60000) }
     ensures { result ≡ theory·demand (rules_of table.now) i w }
@@ -130,7 +130,7 @@ fn demand(table: &[u8], i: u32, w: u32) -> u32
 }
 
 // `jobs_above` is the work of the jobs of tasks 0 to i - 1 that come in a span of ticks.
-#[tactic(auto, using(crate::proofs::DemandLaws::term_most, crate::proofs::DemandLaws::terms_most, crate::proofs::DemandLaws::table_small, crate::proofs::DemandLaws::few_tasks, crate::proofs::DemandLaws::work_at, crate::proofs::DemandLaws::period_at), unfolding(base::specs::Sum::sum_to))]
+#[tactic(auto, using(crate::proofs::DemandLaws::work_at, crate::proofs::DemandLaws::period_at), unfolding(base::specs::Sum::sum_to))]
 fn jobs_above(table: &[u8], i: u32, span: u32) -> u32
     requires { Tasks table.now i × (span ≤ 120000) }
     ensures { result ≡ sum_to i (λ j. (rules_of table.now).C j * theory·ceil span ((rules_of table.now).T j)) }

@@ -130,7 +130,7 @@ pub fn node_start(table: &[u8], waking: u32, state: &mut [u32]) -> u64
 }
 
 // `node_release` is a release at the state's clock: the words of one place are written.
-#[tactic(auto, using(scheduler::proofs::ReleaseLaws::accepted_says, crate::proofs::CallLaws::release_on_answer, crate::proofs::CallLaws::release_is, crate::proofs::CallLaws::not_fitting), unfolding(scheduler::specs::Releases::release_answer))]
+#[tactic(auto, using(crate::proofs::CallLaws::release_is, crate::proofs::CallLaws::not_fitting))]
 pub fn node_release(state: &mut [u32], task: u32, demand: u32) -> u64
     ensures { (result ≡ (release_on state.old task demand).answer)
         × (state.new ≡ (release_on state.old task demand).state) }
@@ -155,7 +155,7 @@ pub fn node_release(state: &mut [u32], task: u32, demand: u32) -> u64
 
 // `node_step` is one tick: the clock, one count of the tally and, in a run, the words of one place
 // are written.
-#[tactic(auto, using(scheduler::proofs::StepLaws::may_step_says, crate::proofs::CallLaws::step_on_answer, crate::proofs::CallLaws::step_is, crate::proofs::CallLaws::step_short, crate::proofs::CallLaws::not_fitting))]
+#[tactic(auto, using(crate::proofs::CallLaws::step_is, crate::proofs::CallLaws::step_short, crate::proofs::CallLaws::not_fitting))]
 pub fn node_step(state: &mut [u32], tally: &mut [u32]) -> u64
     ensures { (result ≡ (step_on state.old tally.old).answer)
         × (state.new ≡ (step_on state.old tally.old).state)
@@ -181,7 +181,7 @@ pub fn node_step(state: &mut [u32], tally: &mut [u32]) -> u64
 }
 
 // `node_energy` gives the energy of a tally.
-#[tactic(auto, using(scheduler::proofs::RefusalLaws::energy_refused, crate::proofs::EnergyLaws::energy_small), unfolding(crate::specs::Calls::energy_on))]
+#[tactic(auto, using(crate::proofs::EnergyLaws::energy_small), unfolding(crate::specs::Calls::energy_on))]
 pub fn node_energy(tally: &[u32], run: u32, sleep: u32, waking: u32) -> u64
     ensures { result ≡ energy_on tally.now run sleep waking }
 {
@@ -254,7 +254,6 @@ fn head_in(state: &[u32]) -> Head
 }
 
 // `fits_in` tells whether the words, whose head is handed in, encode a state that keeps its rules.
-#[tactic(auto, using(crate::proofs::CallLaws::fits_parts, crate::proofs::CallLaws::few_tasks, crate::proofs::CallLaws::places_fit_lem))]
 fn fits_in(state: &[u32], head: Head) -> bool
     requires { Headed state.now head }
     ensures { result ≡ words_fit state.now }
@@ -270,7 +269,7 @@ fn fits_in(state: &[u32], head: Head) -> bool
 }
 
 // `tasks_fit_in` tells whether every task's place is encoded and keeps its rules.
-#[tactic(auto, using(base::proofs::EveryLaws::every_more, base::proofs::EveryLaws::every_not, crate::proofs::LayoutLaws::entry_is), unfolding(scheduler::specs::States::period_before, base::specs::Every::every))]
+#[tactic(auto, unfolding(scheduler::specs::States::period_before, base::specs::Every::every))]
 fn tasks_fit_in(state: &[u32], head: Head) -> bool
     requires { (length state.now ≡ state_size) × (head.n ≤ places) }
     ensures { result ≡ places_fit_in state.now head head.n }
@@ -304,7 +303,7 @@ fn place_fits_in(state: &[u32], head: Head, i: u32, above: u32) -> bool
 
 // `spares_blank` tells whether every word of the places after the n tasks' is 0: these are spare
 // places, encoded.
-#[tactic(auto, using(base::proofs::EveryLaws::every_more, base::proofs::EveryLaws::every_not), unfolding(base::specs::Every::every))]
+#[tactic(auto, unfolding(base::specs::Every::every))]
 fn spares_blank(state: &[u32], n: u32) -> bool
     requires { (length state.now ≡ state_size) × (n ≤ places) }
     ensures { result ≡ spares_blank state.now n }
@@ -377,7 +376,7 @@ fn kind_encoded(kind: u32, a: u32, b: u32) -> bool
 
 // `task_in` reads the entry of a task by its number: number 0 reads the first place, and one of no
 // place a spare one.
-#[tactic(auto, using(crate::proofs::LayoutLaws::entry_is, crate::proofs::LayoutLaws::read_whole))]
+#[tactic(auto, using(crate::proofs::LayoutLaws::entry_is))]
 fn task_in(state: &[u32], task: u32) -> Entry
     requires { length state.now ≡ state_size }
     ensures { result ≡ get_or (entries_in state.now) (task - 1) no_entry }
@@ -482,7 +481,6 @@ fn tally_in(tally: &[u32]) -> Tally
 }
 
 // `tick_in` tells what the next tick of a state that keeps its rules is.
-#[tactic(auto, using(scheduler::proofs::StateLaws::fits_says, scheduler::proofs::TickLaws::first_ready_is), unfolding(scheduler::specs::States::record_in))]
 fn tick_in(state: &[u32], head: Head) -> Tick
     requires { Headed state.now head × (words_fit state.now ≡ true) }
     ensures { result ≡ tick_of (state_in state.now) }
@@ -532,7 +530,7 @@ fn take(state: &mut [u32], head: Head, task: u32, demand: u32)
 }
 
 // `move_on` leaves the state one tick on: the clock, and the work of the task that ran.
-#[tactic(auto, using(scheduler::proofs::StateLaws::fits_says, scheduler::proofs::TickLaws::run_is_task, crate::proofs::LayoutLaws::tick_put, crate::proofs::LayoutLaws::run_put))]
+#[tactic(auto, using(crate::proofs::LayoutLaws::tick_put))]
 fn move_on(state: &mut [u32], head: Head, tick: Tick)
     requires { Headed state.old head × (words_fit state.old ≡ true) × (head.clock < clock_end) × (tick ≡ tick_of (state_in state.old)) }
     ensures { state.new ≡ state_words (after_tick (state_in state.old) tick) }
@@ -556,7 +554,6 @@ fn work(state: &mut [u32], at: usize)
 }
 
 // `raise` leaves the tally with a count one up.
-#[tactic(auto, using(crate::proofs::LayoutLaws::count_put))]
 fn raise(tally: &mut [u32], count: Count)
     requires { (length tally.old ≡ tally_size) × (total (tally_in tally.old) < clock_end) }
     ensures { tally.new ≡ tally_words (raised (tally_in tally.old) count) }
@@ -578,7 +575,7 @@ fn raise_word(tally: &mut [u32], k: usize)
 }
 
 // `put_state` writes a whole state.
-#[tactic(auto, using(crate::proofs::WordLaws::length_puts, crate::proofs::LayoutLaws::place_more_put, crate::proofs::LayoutLaws::state_put), unfolding(crate::specs::Layout::places_words))]
+#[tactic(auto, using(crate::proofs::LayoutLaws::place_more_put, crate::proofs::LayoutLaws::state_put), unfolding(crate::specs::Layout::places_words))]
 fn put_state(out: &mut [u32], s: State)
     requires { length out.old ≡ state_size }
     ensures { out.new ≡ state_words s }
@@ -612,7 +609,7 @@ fn put_verdict(out: &mut [u32], v: Verdict)
 }
 
 // `put_sixteen` writes sixteen words from word k on.
-#[tactic(auto, using(crate::proofs::WordLaws::length_puts, crate::proofs::LayoutLaws::one_more_put), unfolding(base::specs::List::list_from))]
+#[tactic(auto, using(crate::proofs::LayoutLaws::one_more_put), unfolding(base::specs::List::list_from))]
 fn put_sixteen(out: &mut [u32], k: usize, words: [u32; PLACES])
     requires { k + places ≤ length out.old }
     ensures { out.new ≡ puts out.old k 0 (by_place words) }

@@ -152,7 +152,7 @@ pub fn step(state: State, tally: &mut Tally) -> Stepped
 }
 
 // `step_on` is `step` with the tally by value.
-#[tactic(auto, using(crate::proofs::StateLaws::fits_says, crate::proofs::StepLaws::may_step_says), unfolding(crate::specs::States::record_in, crate::specs::Steps::step_of))]
+#[tactic(auto, unfolding(crate::specs::Steps::step_of))]
 pub fn step_on(state: State, tally: Tally) -> Moved
     ensures { result ≡ step_of state tally }
 {
@@ -265,7 +265,7 @@ fn fits(state: State) -> bool
 }
 
 // `places_fit` tells whether every place, a task's or a spare one, keeps its rules.
-#[tactic(auto, using(base::proofs::EveryLaws::every_more, base::proofs::EveryLaws::every_not), unfolding(crate::specs::States::period_before, base::specs::Every::every))]
+#[tactic(auto, unfolding(crate::specs::States::period_before, base::specs::Every::every))]
 fn places_fit(head: Head, entries: [Entry; PLACES]) -> bool
     ensures { result ≡ places_fit head entries }
 {
@@ -311,7 +311,6 @@ fn entry_of(entries: [Entry; PLACES], task: u32) -> Entry
 }
 
 // `tick_of` says what the next tick of a state that keeps its rules is.
-#[tactic(auto, using(crate::proofs::TickLaws::first_ready_is))]
 fn tick_of(state: State) -> Tick
     requires { Ready state }
     ensures { result ≡ tick_of state }
@@ -326,7 +325,6 @@ fn tick_of(state: State) -> Tick
 }
 
 // `after_tick` is the state after its tick.
-#[tactic(auto, using(crate::proofs::TickLaws::run_is_task))]
 fn after_tick(state: State, tick: Tick) -> State
     requires { Ready state × (tick ≡ tick_of state) }
     ensures { result ≡ after_tick state tick }

@@ -87,7 +87,6 @@ fn line(page: Page, i: usize, task: Record, window: u32, figure: u32, rounds: u3
 }
 
 // The last line is the verdict.
-#[tactic(auto, using(crate::proofs::TextLaws::shown_append, crate::proofs::TextLaws::shown_one))]
 fn closed(page: Page, answer: Answer) -> Page
     ensures { result ≡ shown page (last_of answer) }
 {
