@@ -2,7 +2,6 @@
 -- for more than its period.
 use Prim.Native.Nat.{ℕ, zero, suc, ◌+◌, ◌-◌, ◌*◌, ◌≤◌, ◌<◌}
 use mathlib.Core.Path.{◌≡◌}
-use mathlib.Core.List.{List}
 use native.Mathlib.Omega.{arith}
 use native.Mathlib.Nat.{mul-le-mul_left, mul-le-mul_right, mul_comm}
 use Rattle.base.specs.Sum.{sum_to}
@@ -14,8 +13,8 @@ use Rattle.table.specs.Sound.{largest}
 use Rattle.table.specs.Bytes.{record_at, records_in}
 use Rattle.table.specs.Set.{rules_of}
 use Rattle.table.proofs.SetLaws.{TableSet, read_set, works_small, work_is, period_is, set_sound, wait_within}
+use Rattle.admission.specs.declared.ReadTable.{ReadTable}
 use Rattle.admission.specs.Figure.{limit}
-use Rattle.admission.specs.Verdicts.{Tasks}
 
 -- `Small` says that 1 ≤ C ≤ T ≤ 60,000 for every task.
 abbrev pub Small : Rules → Type 0
@@ -36,48 +35,48 @@ module _ (R : Rules) (small : Small R) where
   terms_most zero x l = omega arith
   terms_most (suc i) x l = omega (arith, terms_most i x l, term_most i x)
 
-module _ (bytes : List ℕ) (i : ℕ) (t : Tasks bytes i) where
+module _ (t : ReadTable) where
   -- The table is read as a set, whose rules are small and sound.
-  pub table_set : TableSet bytes t.all
-  table_set = read_set bytes t.all t.reads
+  pub table_set : TableSet t.bytes.now t.tasks
+  table_set = read_set t.bytes.now t.tasks t.reads
 
-  pub table_small : Small (rules_of bytes)
-  table_small = works_small (record_at bytes) _ table_set.set
+  pub table_small : Small (rules_of t.bytes.now)
+  table_small = works_small (record_at t.bytes.now) _ table_set.set
 
-  pub table_sound : Sound (rules_of bytes)
-  table_sound = set_sound (record_at bytes) _ table_set.set
+  pub table_sound : Sound (rules_of t.bytes.now)
+  table_sound = set_sound (record_at t.bytes.now) _ table_set.set
 
   -- There are at most 16 tasks.
-  pub few_tasks : i ≤ 16
-  few_tasks = omega (arith, t.enough, table_set.few)
+  pub few_tasks : t.tasks ≤ 16
+  few_tasks = table_set.few
 
   -- Task j's work and period stand in record j + 1.
-  pub work_at : (j : ℕ) → j < i → (rules_of bytes).C j ≡ (record_at bytes (j + 1)).work
-  work_at j l = work_is (record_at bytes) (records_in bytes - 1) j (omega (arith, t.enough, table_set.tasks))
+  pub work_at : (j : ℕ) → j < t.tasks → (rules_of t.bytes.now).C j ≡ (record_at t.bytes.now (j + 1)).work
+  work_at j l = work_is (record_at t.bytes.now) (records_in t.bytes.now - 1) j (omega (arith, table_set.tasks))
 
-  pub period_at : (j : ℕ) → j < i → (rules_of bytes).T j ≡ (record_at bytes (j + 1)).period
-  period_at j l = period_is (record_at bytes) (records_in bytes - 1) j (omega (arith, t.enough, table_set.tasks))
+  pub period_at : (j : ℕ) → j < t.tasks → (rules_of t.bytes.now).T j ≡ (record_at t.bytes.now (j + 1)).period
+  period_at j l = period_is (record_at t.bytes.now) (records_in t.bytes.now - 1) j (omega (arith, table_set.tasks))
 
   -- A task's work is at most the largest period, and what its jobs ask for in at most 120,000 ticks at most 180,000.
-  pub work_small : (j : ℕ) → j < i → (record_at bytes (j + 1)).work ≤ largest
+  pub work_small : (j : ℕ) → j < t.tasks → (record_at t.bytes.now (j + 1)).work ≤ largest
   work_small j l = omega (arith, work_at j l, table_small j)
 
-  pub jobs_small : (j x : ℕ) → j < i → x ≤ 120000 → (record_at bytes (j + 1)).work * ceil x (record_at bytes (j + 1)).period ≤ 180000
-  jobs_small j x l s = rw (← work_at j l, ← period_at j l) (omega (arith, s, term_most (rules_of bytes) table_small j x))
+  pub jobs_small : (j x : ℕ) → j < t.tasks → x ≤ 120000 → (record_at t.bytes.now (j + 1)).work * ceil x (record_at t.bytes.now (j + 1)).period ≤ 180000
+  jobs_small j x l s = rw (← work_at j l, ← period_at j l) (omega (arith, s, term_most (rules_of t.bytes.now) table_small j x))
 
   -- A job has its period, and does not wait longer than that.
-  pub waits_at : (j : ℕ) → j < i → (rules_of bytes).wait j ≤ (rules_of bytes).D j
-  waits_at j l = wait_within (record_at bytes) (records_in bytes - 1) table_set.set j (omega (arith, t.enough, table_set.tasks))
+  pub waits_at : (j : ℕ) → j < t.tasks → (rules_of t.bytes.now).wait j ≤ (rules_of t.bytes.now).D j
+  waits_at j l = wait_within (record_at t.bytes.now) (records_in t.bytes.now - 1) table_set.set j (omega (arith, table_set.tasks))
 
   -- Limits and waits are at most the largest period.
-  pub limit_small : (j : ℕ) → limit (rules_of bytes) j ≤ largest
+  pub limit_small : (j : ℕ) → limit (rules_of t.bytes.now) j ≤ largest
   limit_small j = omega (arith, table_small j)
 
-  pub wait_small : (j : ℕ) → j < i → (rules_of bytes).wait j ≤ largest
+  pub wait_small : (j : ℕ) → j < t.tasks → (rules_of t.bytes.now).wait j ≤ largest
   wait_small j l = omega (arith, waits_at j l, table_small j)
 
   -- The sleep record has S below H, and H at most the largest period.
-  pub sleep_at : ((record_at bytes 0).work < (record_at bytes 0).period) × ((record_at bytes 0).period ≤ largest)
+  pub sleep_at : ((record_at t.bytes.now 0).work < (record_at t.bytes.now 0).period) × ((record_at t.bytes.now 0).period ≤ largest)
   sleep_at = (table_set.set.room, (table_set.set.lawful_at 0 (omega arith)).small)
 
 -- `Parts` says that the parts of the demand of a window of w ticks at task i are small.
@@ -87,14 +86,10 @@ pub record Parts (R : Rules) (i w : ℕ) : Type 0 where
   pub above : sum_to i (λ j. R.C j * ceil (ceil w R.H * R.H) (R.T j)) ≤ 180000 * i
 
 -- The parts of the demand are small where the window is no longer than the largest period.
-pub parts_small : (bytes : List ℕ) (i w : ℕ) → Tasks bytes (i + 1) → w ≤ largest → Parts (rules_of bytes) i w
-parts_small bytes i w t l =
-    let s = sleep_at bytes (i + 1) t in
-    let span = ceil_near w (rules_of bytes).H (omega arith) in
-    let slots : ceil w (rules_of bytes).H * (rules_of bytes).S ≤ ceil w (rules_of bytes).H * (rules_of bytes).H =
-    mul-le-mul_left (ceil w (rules_of bytes).H) (omega arith) in
-    record {
-      span = omega arith;
-      slots = omega arith;
-      above = terms_most (rules_of bytes) (table_small bytes (i + 1) t) i _ (omega arith);
-    }
+pub parts_small : (t : ReadTable) (i w : ℕ) → i < t.tasks → w ≤ largest → Parts (rules_of t.bytes.now) i w
+parts_small t i w li l =
+    let R = rules_of t.bytes.now in
+    let s = sleep_at t in
+    let span = ceil_near w R.H (omega arith) in
+    let slots : ceil w R.H * R.S ≤ ceil w R.H * R.H = mul-le-mul_left (ceil w R.H) (omega arith) in
+    record { span = omega arith; slots = omega arith; above = terms_most R (table_small t) i _ (omega arith) }

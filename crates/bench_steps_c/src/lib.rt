@@ -1,5 +1,6 @@
 // These are the exports of libbench_steps.a: bench_steps' functions under their own names, with the
-// clauses that bench_steps states.
+// clauses that bench_steps states. A crate is a library or a static library, so that they stand
+// apart, and C takes the names.
 #![tactic(auto)]
 
 ghost use Rattle.std.specs.Prelude.{◌≡◌};

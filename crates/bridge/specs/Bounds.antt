@@ -1,5 +1,5 @@
 -- The response bound is carried over to histories of calls.
-use Rattle.std.specs.Prelude.{ℕ, ◌+◌, ◌-◌, ◌≤◌, ◌<◌, ◌≡◌, Bool, true, false, cond, leb}
+use Rattle.std.specs.Prelude.{ℕ, ◌+◌, ◌-◌, ◌≤◌, ◌<◌, ◌≡◌, Bool, true, false, cond, leb, Result, Ok, Err}
 use Rattle.std.proofs.Math.Path.{refl}
 use Rattle.std.proofs.Common.{ap, arith}
 use mathlib.Core.List.{List, [], ◌∷◌}
@@ -8,16 +8,15 @@ use Rattle.base.specs.Fold.{folded}
 use Rattle.theory.specs.Rounds.{Window}
 use Rattle.theory.proofs.System.{Reach, start}
 use Rattle.theory.proofs.Response.{response}
-use Rattle.table.specs.declared.Reading.TheVariants as read
+use Rattle.table.specs.declared.Refusal.{Refusal}
 use Rattle.table.specs.Set.{rules_of}
 use Rattle.admission.specs.Figure.{limit, figure}
+use Rattle.decisions.specs.declared.Tick.{Tick}
 use Rattle.decisions.specs.declared.Job.{Job}
 use Rattle.decisions.specs.declared.Job.TheVariants.{Resting, Working}
 use Rattle.scheduler.specs.declared.State.{State}
 use Rattle.decisions.specs.declared.Tally.{Tally}
 use Rattle.decisions.specs.declared.Tick.TheVariants.{Run, Slot, Tail}
-use Rattle.scheduler.specs.declared.Ticked.{Ticked}
-use Rattle.scheduler.specs.declared.Ticked.TheVariants as ticked
 use Rattle.scheduler.specs.States.{entry_in}
 use Rattle.scheduler.specs.Starts.{Given, read_given, fresh_state}
 use Rattle.scheduler.proofs.GivenLaws.{given_set}
@@ -28,7 +27,7 @@ use Rattle.bridge.specs.Runs.{Bridged, records, tasks, bridged_next, bridged_beg
 use Rattle.bridge.specs.Ticks.{run_is}
 
 -- A TASK AT WORK ON A JOB RELEASED AT a is so at a clock below a + its figure.
-pub working_below : (g : Given) (n i w a l : ℕ) (calls : List Call) → read_given g ≡ read.Sound n → Window (rules_of g.table) i (limit (rules_of g.table) i) w
+pub working_below : (g : Given) (n i w a l : ℕ) (calls : List Call) → read_given g ≡ Ok n → Window (rules_of g.table) i (limit (rules_of g.table) i) w
     → (entry_in (after (begun (fresh_state g n)) calls).state i).job ≡ Working a l
     → (after (begun (fresh_state g n)) calls).state.clock < a + figure (rules_of g.table) i w
 working_below g n i w a l calls e W j =
@@ -40,7 +39,7 @@ abbrev pub InFigure : (ℕ → ℕ) → Finish → Type 0
 InFigure figures f = f.at ≤ f.release + figures f.place
 
 -- EVERY FINISH IS WITHIN THE FIGURE on a table of which every task has a window.
-module _ (g : Given) (n : ℕ) (e : read_given g ≡ read.Sound n) (figures : ℕ → ℕ)
+module _ (g : Given) (n : ℕ) (e : read_given g ≡ Ok n) (figures : ℕ → ℕ)
     (W : (i : ℕ) → i < n → (w : ℕ) × Window (rules_of g.table) i (limit (rules_of g.table) i) w × (figures i ≡ figure (rules_of g.table) i w)) where
   -- One step more, whatever tally it lends, keeps every finish within its figure.
   finish_step : (p : Past) (t : Tally) → Bridged (records g) (tasks g) p → Reach (rules_of g.table) (view_of p.state) → Each (InFigure figures) p.finishes
@@ -64,11 +63,11 @@ module _ (g : Given) (n : ℕ) (e : read_given g ≡ read.Sound n) (figures : �
           by_left true = (omega (arith, early), fs)
           by_left false = fs
 
-      go : (a : Ticked) → (step_of s t).answer ≡ a → Each (InFigure figures) (finished s p.finishes (step_of s t).answer)
-      go (ticked.Refused x) q = rw q fs
-      go (ticked.Tick Slot) q = rw q fs
-      go (ticked.Tick Tail) q = rw q fs
-      go (ticked.Tick (Run k)) q =
+      go : (a : Result Tick Refusal) → (step_of s t).answer ≡ a → Each (InFigure figures) (finished s p.finishes (step_of s t).answer)
+      go (Err x) q = rw q fs
+      go (Ok Slot) q = rw q fs
+      go (Ok Tail) q = rw q fs
+      go (Ok (Run k)) q =
           let R = run_is (records g) (tasks g) s t k B.sized B.holds q in
           let li : first_ready s < n = omega (arith, R.a_task, B.holds.n_is, (given_set g n e).tasks) in
           let same : first_ready s + 1 - 1 ≡ first_ready s = omega arith in

@@ -1,5 +1,5 @@
 -- An accepted release is a release of the abstract scheduler, and a step that is not refused is one of its ticks.
-use Rattle.std.specs.Prelude.{ℕ, zero, suc, ◌+◌, ◌-◌, ◌%◌, ◌≤◌, ◌<◌, ◌≡◌, refl, true, false}
+use Rattle.std.specs.Prelude.{ℕ, zero, suc, ◌+◌, ◌-◌, ◌%◌, ◌≤◌, ◌<◌, ◌≡◌, refl, true, false, Option, Some, None}
 use Rattle.std.proofs.Common.{ap, ◌∙◌, arith, add-one, leb-true, leb-false}
 use Rattle.std.proofs.Math.ListN.{get_or-eq_default}
 use Rattle.std.proofs.lemmas.Bool.{lt-leb}
@@ -13,8 +13,6 @@ use Rattle.table.specs.declared.Record.{Record}
 use Rattle.table.specs.Set.{rules_from}
 use Rattle.decisions.specs.declared.Job.{Job}
 use Rattle.decisions.specs.declared.Job.TheVariants.{Resting, Working}
-use Rattle.decisions.specs.declared.Last.{Last}
-use Rattle.decisions.specs.declared.Last.TheVariants.{Never, At}
 use Rattle.decisions.specs.declared.Entry.{Entry}
 use Rattle.scheduler.specs.declared.State.{State}
 use Rattle.decisions.specs.Fits.{clock_end, no_entry}
@@ -36,10 +34,10 @@ beyond_rests s size L i g = by_lt i places (entry_in s i ≡ no_entry)
     (λ ge. get_or-eq_default s.entries no_entry {n = i} (omega (arith, size)))
 
 -- The spacing of releases that a state keeps is the spacing that the theory asks for.
-allowed : (last : Last) (period clock : ℕ) → ((a : ℕ) → last ≡ At a → a + period ≤ clock) → Allowed period (last_view last) clock
+allowed : (last : Option ℕ) (period clock : ℕ) → ((a : ℕ) → last ≡ Some a → a + period ≤ clock) → Allowed period (last_view last) clock
 unfolding Allowed
-allowed Never period clock f = tt
-allowed (At a) period clock f = f a refl
+allowed None period clock f = tt
+allowed (Some a) period clock f = f a refl
 
 -- A RELEASE of a task that is free is a release of the abstract scheduler.
 pub release_moves : (set : ℕ → Record) (n : ℕ) (s : State) (task demand : ℕ) → Holds set n s → Sized s → FreeTask s task demand

@@ -1,6 +1,6 @@
 -- The worst pattern reaches each figure exactly, and shows the first task without a window late.
 use Prim.Native.Nat.{ℕ, zero, suc, ◌+◌, ◌-◌, ◌*◌, ◌≤◌, ◌<◌}
-use Rattle.std.specs.Prelude.{◌≡◌, List, [], ◌∷◌, ◌++◌}
+use Rattle.std.specs.Prelude.{◌≡◌, List, [], ◌∷◌, ◌++◌, Ok}
 use Rattle.std.proofs.Math.Path.{refl}
 use Rattle.std.proofs.Common.{ap, sym, subst, ◌∙◌}
 use native.Mathlib.Omega.{arith}
@@ -19,7 +19,6 @@ use Rattle.theory.proofs.Response.{response}
 use Rattle.theory.proofs.Worst.{Pattern, begin, release, tick, pattern_reach, Count, none, some, follows}
 use Rattle.theory.proofs.Figures.{reached_before, late}
 use Rattle.theory.proofs.Free.{Free, windowed, one_job}
-use Rattle.table.specs.declared.Reading.TheVariants as read
 use Rattle.table.specs.Bytes.{record_at, records_in}
 use Rattle.table.specs.Set.{rules_of}
 use Rattle.table.proofs.SetLaws.{works_small}
@@ -51,7 +50,7 @@ fewer R o m i v l (begin f) = begin f
 fewer R o m i v l (release {v = u} j d p r f) = release j d (fewer R o m i u l p) r (λ lj. f (omega arith))
 fewer R o m i v l (tick {v = u} p t f) = tick (fewer R o m i u l p) t (λ j lj. f j (omega arith))
 
-module _ (g : Given) (n : ℕ) (e : read_given g ≡ read.Sound n) where
+module _ (g : Given) (n : ℕ) (e : read_given g ≡ Ok n) where
   abbrev R : Rules
   R = rules_of g.table
 

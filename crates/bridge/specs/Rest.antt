@@ -1,5 +1,5 @@
 -- There is rest after a tail tick, from any state that has its places, over any calls.
-use Rattle.std.specs.Prelude.{ℕ, ◌+◌, ◌≤◌, ◌≡◌, List}
+use Rattle.std.specs.Prelude.{ℕ, ◌+◌, ◌≤◌, ◌≡◌, List, Ok}
 use Rattle.theory.specs.Rules.{Rules}
 use Rattle.theory.specs.Boundary.{boundary}
 use Rattle.theory.proofs.System.{Sound}
@@ -9,7 +9,6 @@ use Rattle.table.proofs.SetLaws.{set_sound}
 use Rattle.scheduler.specs.declared.State.{State}
 use Rattle.decisions.specs.declared.Tally.{Tally}
 use Rattle.decisions.specs.declared.Tick.TheVariants.{Run, Tail}
-use Rattle.scheduler.specs.declared.Ticked.TheVariants as ticked
 use Rattle.scheduler.specs.States.{record_in}
 use Rattle.scheduler.specs.Lawful.{LawfulState}
 use Rattle.scheduler.specs.Steps.{first_ready, step_of}
@@ -21,8 +20,8 @@ use Rattle.bridge.specs.Runs.{Bridged, bridged_after, step_bridged, go_on}
 
 -- AFTER A TAIL TICK of a state s no task runs before the end of the sleep slot that starts at the first boundary after
 -- it, in whatever goes on from the state that the tick left.
-pub tail_rests : (s : State) (t u : Tally) (k : ℕ) (p : Past) (between : List Call) → Sized s → (step_of s t).answer ≡ ticked.Tick Tail → p.state ≡ (step_of s t).state
-    → (step_of (after p between).state u).answer ≡ ticked.Tick (Run k)
+pub tail_rests : (s : State) (t u : Tally) (k : ℕ) (p : Past) (between : List Call) → Sized s → (step_of s t).answer ≡ Ok Tail → p.state ≡ (step_of s t).state
+    → (step_of (after p between).state u).answer ≡ Ok (Run k)
     → boundary s.sleep.period s.clock + s.sleep.work ≤ (after p between).state.clock
 unfolding record_in
 tail_rests s t u k p between size tail from run =

@@ -1,24 +1,21 @@
 -- Every list of calls from a state that keeps its rules is a run of the abstract scheduler: its accepted releases are
 -- releases there, its steps ticks, and refused calls change nothing. A run from a fresh start is from a fresh view.
-use Rattle.std.specs.Prelude.{ℕ, zero, suc, ◌+◌, ◌-◌, ◌≤◌, ◌<◌, ◌≡◌, refl, List}
+use Rattle.std.specs.Prelude.{ℕ, zero, suc, ◌+◌, ◌-◌, ◌≤◌, ◌<◌, ◌≡◌, refl, List, Result, Ok, Err, None}
 use Rattle.std.proofs.Common.{ap, sym, ◌∙◌, arith}
 use Rattle.base.proofs.Split.{by_lt}
 use Rattle.base.proofs.FoldLaws.{folded_keeps}
 use Rattle.theory.proofs.System.{View, Sound, Tick, slotted, ran, tailed, Move, released, ticked, Fresh, Reach, start, move}
 use Rattle.theory.proofs.TailLaws.{After, next as further}
-use Rattle.table.specs.declared.Reading.TheVariants as read
+use Rattle.table.specs.declared.Refusal.{Refusal}
 use Rattle.table.specs.Bytes.{record_at, records_in}
 use Rattle.table.specs.Sound.{places}
 use Rattle.table.specs.declared.Record.{Record}
 use Rattle.table.specs.Set.{rules_from, rules_of}
 use Rattle.table.proofs.SetLaws.{set_sound}
 use Rattle.decisions.specs.declared.Job.TheVariants.{Resting, Working}
-use Rattle.decisions.specs.declared.Last.TheVariants.{Never}
 use Rattle.decisions.specs.declared.Entry.{Entry}
 use Rattle.scheduler.specs.declared.State.{State}
 use Rattle.decisions.specs.declared.Tally.{Tally}
-use Rattle.decisions.specs.declared.Answer.{Answer}
-use Rattle.decisions.specs.declared.Answer.TheVariants.{Accepted, Refused}
 use Rattle.decisions.specs.Fits.{clock_end}
 use Rattle.scheduler.specs.States.{entry_in, aged}
 use Rattle.scheduler.specs.Lawful.{LawfulState}
@@ -114,9 +111,9 @@ step_leaves set n s t size L H = go (step_is s t)
 release_leaves : (set : ℕ → Record) (n : ℕ) (s : State) (task demand : ℕ) → Sized s → LawfulState s → Holds set n s → Leaves set n s (release_of s task demand).state
 release_leaves set n s task demand size L H = go (release_answer s task demand) refl
   where
-    go : (a : Answer) → release_answer s task demand ≡ a → Leaves set n s (release_of s task demand).state
-    go (Refused r) q = rw q (record { sized = size; lawful_state = L; holds = H; called = unmoved refl })
-    go Accepted q =
+    go : (a : Result (Unit {0}) Refusal) → release_answer s task demand ≡ a → Leaves set n s (release_of s task demand).state
+    go (Err r) q = rw q (record { sized = size; lawful_state = L; holds = H; called = unmoved refl })
+    go (Ok tt) q =
         let F = accepted_says s task demand q in
         let K = release_place s task demand size F in
         let e = released_entry s (task - 1) demand in
@@ -153,7 +150,7 @@ abbrev pub tasks : Given → ℕ
 tasks g = records_in g.table - 1
 
 -- A fresh start keeps the rules and holds its set.
-pub bridged_begun : (g : Given) (n : ℕ) → read_given g ≡ read.Sound n → Bridged (records g) (tasks g) (begun (fresh_state g n))
+pub bridged_begun : (g : Given) (n : ℕ) → read_given g ≡ Ok n → Bridged (records g) (tasks g) (begun (fresh_state g n))
 bridged_begun g n e =
     let S = given_set g n e in
     let L = fresh_lawful g n e in
@@ -168,7 +165,7 @@ bridged_begun g n e =
     }
 
 -- A fresh start is a fresh view.
-pub begun_fresh : (g : Given) (n : ℕ) → read_given g ≡ read.Sound n → Fresh (view_of (fresh_state g n))
+pub begun_fresh : (g : Given) (n : ℕ) → read_given g ≡ Ok n → Fresh (view_of (fresh_state g n))
 begun_fresh g n e = record {
   clock_zero = refl;
   all_rest = λ k. ap job_view (rests k).0;
@@ -178,8 +175,8 @@ begun_fresh g n e = record {
     L : Sized (fresh_state g n) × LawfulState (fresh_state g n)
     L = fresh_lawful g n e
 
-    rests : (k : ℕ) → ((entry_in (fresh_state g n) k).job ≡ Resting) × ((entry_in (fresh_state g n) k).last ≡ Never)
-    rests k = by_lt k places (((entry_in (fresh_state g n) k).job ≡ Resting) × ((entry_in (fresh_state g n) k).last ≡ Never))
+    rests : (k : ℕ) → ((entry_in (fresh_state g n) k).job ≡ Resting) × ((entry_in (fresh_state g n) k).last ≡ None)
+    rests k = by_lt k places (((entry_in (fresh_state g n) k).job ≡ Resting) × ((entry_in (fresh_state g n) k).last ≡ None))
         (λ l. fresh_rests g n k L.1.few l)
         (λ ge. rw (beyond_rests (fresh_state g n) L.0 L.1 k (omega (arith, L.1.few))) (refl, refl))
 
@@ -206,13 +203,13 @@ pub go_on : (set : ℕ → Record) (n : ℕ) (v : View) (p : Past) (calls : List
 go_on set n v = view_after set n (After (rules_from set n) v) (λ u w a m. further a m)
 
 -- The theory knows every history from a fresh start: its state keeps the rules and holds the set.
-pub history_bridged : (g : Given) (n : ℕ) (calls : List Call) → read_given g ≡ read.Sound n → Bridged (records g) (tasks g) (after (begun (fresh_state g n)) calls)
+pub history_bridged : (g : Given) (n : ℕ) (calls : List Call) → read_given g ≡ Ok n → Bridged (records g) (tasks g) (after (begun (fresh_state g n)) calls)
 history_bridged g n calls e = bridged_after (records g) (tasks g) (begun (fresh_state g n)) calls (bridged_begun g n e)
 
-pub history_reaches : (g : Given) (n : ℕ) (calls : List Call) → read_given g ≡ read.Sound n
+pub history_reaches : (g : Given) (n : ℕ) (calls : List Call) → read_given g ≡ Ok n
     → Reach (rules_of g.table) (view_of (after (begun (fresh_state g n)) calls).state)
 history_reaches g n calls e = reach_after (records g) (tasks g) (begun (fresh_state g n)) calls (bridged_begun g n e) (start (begun_fresh g n e))
 
 -- The rules of a sound table are as the theory needs them.
-pub rules_sound : (g : Given) (n : ℕ) → read_given g ≡ read.Sound n → Sound (rules_of g.table)
+pub rules_sound : (g : Given) (n : ℕ) → read_given g ≡ Ok n → Sound (rules_of g.table)
 rules_sound g n e = set_sound (record_at g.table) (records_in g.table - 1) (given_set g n e).set

@@ -1,6 +1,6 @@
 -- A step that answers a tick was a tick of the abstract scheduler, and a step that answers a run ran the first task
 -- that may run.
-use Rattle.std.specs.Prelude.{ℕ, zero, suc, ◌+◌, ◌-◌, ◌≤◌, ◌<◌, ◌≡◌}
+use Rattle.std.specs.Prelude.{ℕ, zero, suc, ◌+◌, ◌-◌, ◌≤◌, ◌<◌, ◌≡◌, Ok, Err}
 use Rattle.std.proofs.Common.{ap, sym, ◌∙◌, arith}
 use Rattle.theory.proofs.System.{Ran, Tailed}
 use Rattle.table.specs.declared.Record.{Record}
@@ -10,7 +10,6 @@ use Rattle.scheduler.specs.declared.State.{State}
 use Rattle.decisions.specs.declared.Tally.{Tally}
 use Rattle.decisions.specs.declared.Tick.{Tick}
 use Rattle.decisions.specs.declared.Tick.TheVariants.{Run, Slot, Tail}
-use Rattle.scheduler.specs.declared.Ticked.TheVariants as ticked
 use Rattle.scheduler.specs.declared.Moved.{Moved}
 use Rattle.decisions.specs.Fits.{clock_end}
 use Rattle.scheduler.specs.States.{head_of, entry_in}
@@ -30,15 +29,15 @@ pub record Made (s : State) (t : Tally) (tick : Tick) : Type 0 where
   pub is : tick_of s ≡ tick
   pub to : (step_of s t).state ≡ after_tick s tick
 
-pub made_tick : (s : State) (t : Tally) (tick : Tick) → (step_of s t).answer ≡ ticked.Tick tick → Made s t tick
+pub made_tick : (s : State) (t : Tally) (tick : Tick) → (step_of s t).answer ≡ Ok tick → Made s t tick
 made_tick s t tick e = go (step_is s t)
   where
     go : StepIs s t → Made s t tick
     go (stays r q) =
-        let w : ticked.Refused r ≡ ticked.Tick tick = sym (ap {A = Moved} (λ m. m.answer) q) ∙ e in
+        let w : Err r ≡ Ok tick = sym (ap {A = Moved} (λ m. m.answer) q) ∙ e in
         let z : ◌≡◌ {A = ℕ} 0 1 = cc in absurd (let y : ⊥ = omega arith in y)
     go (moves m q) =
-        let w : ticked.Tick (tick_of s) ≡ ticked.Tick tick = sym (ap {A = Moved} (λ m. m.answer) q) ∙ e in
+        let w : Ok (tick_of s) ≡ Ok tick = sym (ap {A = Moved} (λ m. m.answer) q) ∙ e in
         let same : tick_of s ≡ tick = cc in
         record { lawful_state = fits_says s m.fitting; before_end = m.before_end; is = same; to = rw (← same) (ap {A = Moved} (λ x. x.state) q) }
 
@@ -51,7 +50,7 @@ pub record RunIs (set : ℕ → Record) (n : ℕ) (s : State) (t : Tally) (k : �
   pub was : (entry_in s (first_ready s)).job ≡ Working a (suc l)
   pub ran : Ran (rules_from set n) (first_ready s) a l (view_of s) (view_of (step_of s t).state)
 
-pub run_is : (set : ℕ → Record) (n : ℕ) (s : State) (t : Tally) (k : ℕ) → Sized s → Holds set n s → (step_of s t).answer ≡ ticked.Tick (Run k) → RunIs set n s t k
+pub run_is : (set : ℕ → Record) (n : ℕ) (s : State) (t : Tally) (k : ℕ) → Sized s → Holds set n s → (step_of s t).answer ≡ Ok (Run k) → RunIs set n s t k
 run_is set n s t k size H e = go (tick_is s)
   where
     M : Made s t (Run k)
@@ -85,7 +84,7 @@ run_is set n s t k size H e = go (tick_is s)
         }
 
 -- A TAIL TICK finds no job that may run.
-pub tail_is : (set : ℕ → Record) (n : ℕ) (s : State) (t : Tally) → Sized s → Holds set n s → (step_of s t).answer ≡ ticked.Tick Tail
+pub tail_is : (set : ℕ → Record) (n : ℕ) (s : State) (t : Tally) → Sized s → Holds set n s → (step_of s t).answer ≡ Ok Tail
     → Tailed (rules_from set n) (view_of s) (view_of (step_of s t).state)
 tail_is set n s t size H e = go (tick_is s)
   where

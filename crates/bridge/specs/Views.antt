@@ -1,5 +1,5 @@
 -- A state is a view of the abstract scheduler: it has its clock and, by place, its jobs and last releases.
-use Rattle.std.specs.Prelude.{ℕ, ◌+◌, ◌<◌, ◌≡◌, refl}
+use Rattle.std.specs.Prelude.{ℕ, ◌+◌, ◌<◌, ◌≡◌, refl, Option, Some, None}
 use Rattle.std.proofs.Common.{sym, arith}
 use Rattle.theory.proofs.System as theory
 use Rattle.table.specs.declared.Record.{Record}
@@ -7,8 +7,6 @@ use Rattle.table.specs.Set.{rules_from}
 use Rattle.table.proofs.SetLaws.{work_is, period_is}
 use Rattle.decisions.specs.declared.Job.{Job}
 use Rattle.decisions.specs.declared.Job.TheVariants.{Resting, Working}
-use Rattle.decisions.specs.declared.Last.{Last}
-use Rattle.decisions.specs.declared.Last.TheVariants.{Never, At}
 use Rattle.scheduler.specs.declared.State.{State}
 use Rattle.scheduler.specs.States.{entry_in, record_in}
 use Rattle.scheduler.proofs.StateLaws.{record_of}
@@ -18,9 +16,9 @@ abbrev pub job_view : Job → theory.Job
 job_view Resting = theory.resting
 job_view (Working a l) = theory.working a l
 
-abbrev pub last_view : Last → theory.Last
-last_view Never = theory.never
-last_view (At a) = theory.at a
+abbrev pub last_view : Option ℕ → theory.Last
+last_view None = theory.never
+last_view (Some a) = theory.at a
 
 -- A state is the view of its clock and, by place, of its jobs and last releases.
 abbrev pub view_of : State → theory.View
@@ -35,9 +33,9 @@ pub rest_back : (job : Job) → job_view job ≡ theory.resting → job ≡ Rest
 rest_back Resting e = refl
 rest_back (Working b m) e = let z : ◌≡◌ {A = ℕ} 0 1 = cc in absurd (let y : ⊥ = omega arith in y)
 
-pub last_back : (last : Last) (a : ℕ) → last_view last ≡ theory.at a → last ≡ At a
-last_back Never a e = let z : ◌≡◌ {A = ℕ} 0 1 = cc in absurd (let y : ⊥ = omega arith in y)
-last_back (At p) a e = let pa : p ≡ a = cc in rw pa
+pub last_back : (last : Option ℕ) (a : ℕ) → last_view last ≡ theory.at a → last ≡ Some a
+last_back None a e = let z : ◌≡◌ {A = ℕ} 0 1 = cc in absurd (let y : ⊥ = omega arith in y)
+last_back (Some p) a e = let pa : p ≡ a = cc in rw pa
 
 -- The state holds the records of a set of n tasks.
 pub record Holds (set : ℕ → Record) (n : ℕ) (s : State) : Type 0 where

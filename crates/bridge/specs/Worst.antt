@@ -3,7 +3,7 @@
 use Prim.Native.Nat.{ℕ, zero, suc, ◌+◌, ◌-◌, ◌*◌, ◌/◌, ◌%◌, ◌≤◌, ◌<◌}
 use Rattle.std.proofs.Math.Path.{◌≡◌, refl, ap}
 use Rattle.std.proofs.Common.{sym, subst, ◌∙◌, div-add-mod', leb-true, eqb-true, le-leb}
-use Rattle.std.specs.Prelude.{◌≢◌, [], ◌∷◌, Bool, true, false, cond, leb, eqb}
+use Rattle.std.specs.Prelude.{◌≢◌, [], ◌∷◌, Bool, true, false, cond, leb, eqb, Ok, Option, Some, None}
 use Rattle.std.proofs.Math.Bool.{and-eq-true_iff}
 use native.Mathlib.Omega.{arith}
 use Rattle.std.proofs.Math.Nat.{mul-mod_left}
@@ -18,16 +18,12 @@ use Rattle.theory.proofs.Worst as worst
 use Rattle.theory.proofs.Worst.{Offsets, Due, Pattern, tick_last}
 use Rattle.theory.proofs.Figures.{offset_good}
 use Rattle.theory.proofs.Free.{Free, free_due}
-use Rattle.table.specs.declared.Reading.TheVariants as read
 use Rattle.table.specs.Bytes.{record_at, records_in}
 use Rattle.table.specs.Set.{rules_of}
 use Rattle.table.proofs.TimesLaws.{says_time}
 use Rattle.table.proofs.SetLaws.{first_multiple}
-use Rattle.decisions.specs.declared.Last.{Last}
-use Rattle.decisions.specs.declared.Last.TheVariants.{Never, At}
 use Rattle.scheduler.specs.declared.State.{State}
 use Rattle.scheduler.specs.declared.Moved.{Moved}
-use Rattle.decisions.specs.declared.Answer.TheVariants.{Accepted}
 use Rattle.decisions.specs.Fits.{clock_end, no_entry}
 use Rattle.scheduler.specs.States.{entry_in}
 use Rattle.scheduler.specs.Starts.{Given, read_given, fresh_state}
@@ -60,13 +56,13 @@ says_due R j t (m, e) =
     rw (le-leb (offset R j) t l, d, mul-mod_left m (R.T j))
 
 -- The spacing that the theory asks for is the spacing of releases that a state keeps.
-allowed_back : (last : Last) (period clock : ℕ) → Allowed period (last_view last) clock → (a : ℕ) → last ≡ At a → a + period ≤ clock
+allowed_back : (last : Option ℕ) (period clock : ℕ) → Allowed period (last_view last) clock → (a : ℕ) → last ≡ Some a → a + period ≤ clock
 unfolding Allowed
-allowed_back Never period clock al a e = let z : ◌≡◌ {A = ℕ} 0 1 = cc in absurd (let y : ⊥ = omega arith in y)
-allowed_back (At p) period clock al a e = let pa : p ≡ a = cc in rw pa at al
+allowed_back None period clock al a e = let z : ◌≡◌ {A = ℕ} 0 1 = cc in absurd (let y : ⊥ = omega arith in y)
+allowed_back (Some p) period clock al a e = let pa : p ≡ a = cc in rw pa at al
 
 -- All of this is about a sound table of n tasks, of which those up to place i follow the pattern.
-module _ (g : Given) (n : ℕ) (e : read_given g ≡ read.Sound n) (i : ℕ) (li : i < n) where
+module _ (g : Given) (n : ℕ) (e : read_given g ≡ Ok n) (i : ℕ) (li : i < n) where
   -- These are the rules of the table.
   abbrev R : Rules
   R = rules_of g.table
@@ -101,7 +97,7 @@ module _ (g : Given) (n : ℕ) (e : read_given g ≡ read.Sound n) (i : ℕ) (li
     pub pattern : Pattern R o i (view_of p.state)
     pub clock_is : p.state.clock ≡ t
     pub given : (k : ℕ) → k < j → Due R o k t → (view_of p.state).last k ≡ theory.at t
-    pub rest : (k q : ℕ) → j ≤ k → (entry_in p.state k).last ≡ At q → q < t
+    pub rest : (k q : ℕ) → j ≤ k → (entry_in p.state k).last ≡ Some q → q < t
     pub accepted : p.refusals ≡ 0
     pub counted : Counted p
 
@@ -163,7 +159,7 @@ module _ (g : Given) (n : ℕ) (e : read_given g ≡ read.Sound n) (i : ℕ) (li
       q : (release_of s (j + 1) (R.C j)).state ≡ released_state s (j + 1) (R.C j)
       q = rw (says_accepted s (j + 1) (R.C j) F)
 
-      answer : (release_of s (j + 1) (R.C j)).answer ≡ Accepted
+      answer : (release_of s (j + 1) (R.C j)).answer ≡ Ok tt
       answer = rw (says_accepted s (j + 1) (R.C j) F)
 
       M : Released R j (R.C j) (view_of s) (view_of (released_state s (j + 1) (R.C j)))
@@ -197,12 +193,12 @@ module _ (g : Given) (n : ℕ) (e : read_given g ≡ read.Sound n) (i : ℕ) (li
       }
 
   -- No last release of a state is after its clock.
-  last_past : (p : Past) → Bridged (records g) (tasks g) p → (k q : ℕ) → (entry_in p.state k).last ≡ At q → q ≤ p.state.clock
+  last_past : (p : Past) → Bridged (records g) (tasks g) p → (k q : ℕ) → (entry_in p.state k).last ≡ Some q → q ≤ p.state.clock
   last_past p B k q z = by_lt k p.state.n (q ≤ p.state.clock)
       (λ l. ((B.lawful_state.task k l).last_fits q z).0)
       (λ ge.
       let r : entry_in p.state k ≡ no_entry = beyond_rests p.state B.sized B.lawful_state k ge in
-      let w : Never ≡ At q = rw r at z in
+      let w : None ≡ Some q = rw r at z in
       let y : ◌≡◌ {A = ℕ} 0 1 = cc in absurd (let x : ⊥ = omega arith in x))
 
   -- The step of tick t goes on to the next tick, in which no task has had its release.
@@ -215,7 +211,7 @@ module _ (g : Given) (n : ℕ) (e : read_given g ≡ read.Sound n) (i : ℕ) (li
     given = λ k l d. absurd (let z : ⊥ = omega arith in z);
     rest = λ k x l z.
         let z' : (view_of (after_tick s (tick_of s))).last k ≡ theory.at x = rw q at (ap last_view z) in
-        let was : (entry_in s k).last ≡ At x = last_back (entry_in s k).last x (sym (tick_last R (view_of s) (view_of (after_tick s (tick_of s))) T k) ∙ z') in
+        let was : (entry_in s k).last ≡ Some x = last_back (entry_in s k).last x (sym (tick_last R (view_of s) (view_of (after_tick s (tick_of s))) T k) ∙ z') in
         omega (arith, last_past p B k x was, I.clock_is);
     accepted = rw (step_made s p.tally B.lawful_state I.counted.counted in_time) (omega (arith, I.accepted));
     counted = counted_next p step tt B.lawful_state.few I.counted;

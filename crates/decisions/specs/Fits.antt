@@ -1,14 +1,12 @@
 -- The rules that are checked for refusal 6 (RULES 4 and 8.2) are defined here, of a state's head, of one place and of a
 -- tally.
-use Rattle.std.specs.Prelude.{ℕ, ◌+◌, Bool, true, false, cond, ◌&&◌, leb, ltb, eqb}
+use Rattle.std.specs.Prelude.{ℕ, ◌+◌, Bool, true, false, cond, ◌&&◌, leb, ltb, eqb, Option, Some, None}
 use Rattle.table.specs.declared.Record.{Record}
 use Rattle.table.specs.Bytes.{no_record}
 use Rattle.table.specs.Sound.{places, record_fits, sleep_fits}
 use Rattle.table.specs.Times.{release_time}
 use Rattle.decisions.specs.declared.Job.{Job}
 use Rattle.decisions.specs.declared.Job.TheVariants.{Resting, Working}
-use Rattle.decisions.specs.declared.Last.{Last}
-use Rattle.decisions.specs.declared.Last.TheVariants.{Never, At}
 use Rattle.decisions.specs.declared.Entry.{Entry}
 use Rattle.decisions.specs.declared.Head.{Head}
 use Rattle.decisions.specs.declared.Tally.{Tally}
@@ -19,24 +17,24 @@ clock_end = 1000000000
 
 -- A spare place holds a record of zeros, rests and was never released.
 abbrev pub no_entry : Entry
-no_entry = record { task = no_record; job = Resting; last = Never }
+no_entry = record { task = no_record; job = Resting; last = None }
 
 -- `zeroed` tells whether a record is one of zeros.
 abbrev pub zeroed : Record → Bool
 zeroed r = eqb r.label 0 && eqb r.work 0 && eqb r.period 0 && eqb r.reserved 0
 
 -- A last release keeps its rules: it is not after the clock, and the task at place i may be released at that tick.
-abbrev pub last_fits : Head → ℕ → Last → Bool
-last_fits head i Never = true
-last_fits head i (At a) = leb a head.clock && release_time head.sleep.period i a
+abbrev pub last_fits : Head → ℕ → Option ℕ → Bool
+last_fits head i None = true
+last_fits head i (Some a) = leb a head.clock && release_time head.sleep.period i a
 
 -- `last_is` tells whether a last release is at tick a.
-abbrev pub last_is : Last → ℕ → Bool
-last_is Never a = false
-last_is (At p) a = eqb p a
+abbrev pub last_is : Option ℕ → ℕ → Bool
+last_is None a = false
+last_is (Some p) a = eqb p a
 
 -- A job keeps its rules: the work left is 1 to C, and a working task's release tick is its last release.
-abbrev pub job_fits : ℕ → Last → Job → Bool
+abbrev pub job_fits : ℕ → Option ℕ → Job → Bool
 job_fits c last Resting = true
 job_fits c last (Working a l) = leb 1 l && leb l c && last_is last a
 
@@ -47,9 +45,9 @@ task_fits head i above e =
     record_fits e.task && leb above e.task.period && last_fits head i e.last && job_fits e.task.work e.last e.job
 
 -- A spare place holds a record of zeros, rests and reads never.
-abbrev pub rests_never : Job → Last → Bool
-rests_never Resting Never = true
-rests_never Resting (At a) = false
+abbrev pub rests_never : Job → Option ℕ → Bool
+rests_never Resting None = true
+rests_never Resting (Some a) = false
 rests_never (Working a l) last = false
 
 abbrev pub spare_fits : Entry → Bool

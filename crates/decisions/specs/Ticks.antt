@@ -1,6 +1,7 @@
 -- What a tick is made of is defined here (RULES 7): the slot, which job may run, what a run leaves and which count is
 -- raised.
 use Rattle.std.specs.Prelude.{ℕ, ◌+◌, ◌-◌, ◌%◌, Bool, false, cond, leb, ltb}
+use Rattle.base.specs.First.{first_from}
 use Rattle.theory.specs.Rules.{ready}
 use Rattle.decisions.specs.declared.Job.{Job}
 use Rattle.decisions.specs.declared.Job.TheVariants.{Resting, Working}
@@ -37,6 +38,16 @@ came tick (Working a l) = leb a tick
 -- A tick outside the slot, i being the place of the first of n tasks that may run, is a run of it or a tail tick.
 abbrev pub run_or_tail : ℕ → ℕ → Tick
 run_or_tail n i = cond (ltb i n) (Run (i + 1)) Tail
+
+-- `first_come` is the place of the first of n tasks, their entries being given by place, whose job had come by a tick; it
+-- is n where there is none.
+abbrev pub first_come : (ℕ → Entry) → ℕ → ℕ → ℕ
+first_come entry n tick = first_from (λ i. came tick (entry i).job) n 0
+
+-- `next_tick` is what the next tick is: a slot tick in the slot, else a run of the first task whose job had come by the
+-- last boundary, or a tail tick. In a state that keeps its rules this is the tick of RULES 7 (`tick_is_next` of scheduler).
+abbrev pub next_tick : Head → (ℕ → Entry) → Tick
+next_tick head entry = cond (in_slot head) Slot (run_or_tail head.n (first_come entry head.n (last_boundary head)))
 
 -- A run takes one unit off the work left, and at zero the task rests.
 abbrev pub worked_job : Job → Job

@@ -1,5 +1,6 @@
 -- Every history from a fresh start keeps the rules of state and tally, so that no call is refused with 6; and it keeps
 -- the accounts, task by task and in all: the ticks run and the work left are the demands accepted.
+use Rattle.std.specs.Prelude.{Result, Ok, Err}
 use Prim.Native.Nat.{ℕ, ◌+◌, ◌-◌, ◌≤◌, ◌<◌}
 use mathlib.Core.Path.{◌≡◌, refl, ap, sym, ◌∙◌}
 use mathlib.Core.Logic.{◌≢◌}
@@ -14,7 +15,7 @@ use Rattle.base.specs.Fold.{folded}
 use Rattle.base.proofs.Split.{by_eq}
 use Rattle.base.proofs.SumLaws.{sum_to_zero, plus_same, plus_other, sum_plus, sum_same}
 use Rattle.base.proofs.FoldLaws.{folded_keeps}
-use Rattle.table.specs.declared.Reading.TheVariants as read
+use Rattle.table.specs.declared.Refusal.{Refusal}
 use Rattle.table.specs.Sound.{places}
 use Rattle.decisions.specs.declared.Job.{Job}
 use Rattle.decisions.specs.declared.Job.TheVariants.{Resting, Working}
@@ -24,9 +25,6 @@ use Rattle.scheduler.specs.declared.State.{State}
 use Rattle.decisions.specs.declared.Tally.{Tally}
 use Rattle.decisions.specs.declared.Count.TheVariants.{Slots, Wakings}
 use Rattle.decisions.specs.declared.Tick.TheVariants.{Slot}
-use Rattle.scheduler.specs.declared.Ticked.TheVariants as ticked
-use Rattle.decisions.specs.declared.Answer.{Answer}
-use Rattle.decisions.specs.declared.Answer.TheVariants.{Accepted, Refused}
 use Rattle.decisions.specs.Fits.{clock_end, total}
 use Rattle.scheduler.specs.States.{head_of, entry_in}
 use Rattle.scheduler.specs.Lawful.{LawfulState}
@@ -104,7 +102,7 @@ kept_release s demands ticks task demand K F = record {
 
 -- A tick keeps the accounts.
 kept_tick : (s : State) (demands ticks : ℕ → ℕ) → Accounts s demands ticks → s.clock < clock_end
-    → Accounts (after_tick s (tick_of s)) demands (ran ticks (ticked.Tick (tick_of s)))
+    → Accounts (after_tick s (tick_of s)) demands (ran ticks (Ok (tick_of s)))
 kept_tick s demands ticks K l = record {
   sized = B.0;
   lawful_state = B.1;
@@ -114,7 +112,7 @@ kept_tick s demands ticks K l = record {
     B : Sized (after_tick s (tick_of s)) × LawfulState (after_tick s (tick_of s))
     B = after_lawful s K.sized K.lawful_state l
 
-    go : TickIs s → (i : ℕ) → i < places → ran ticks (ticked.Tick (tick_of s)) i + left_in (after_tick s (tick_of s)) i ≡ demands i
+    go : TickIs s → (i : ℕ) → i < places → ran ticks (Ok (tick_of s)) i + left_in (after_tick s (tick_of s)) i ≡ demands i
     go (slots a e) = rw e K.each
     go (tails a b e) = rw e K.each
     go (runs a b e) = rw (e, same) each
@@ -156,9 +154,9 @@ pub kept_next : (p : Past) (call : Call) → Kept p → Kept (next p call)
 unfolding next
 kept_next p (release task demand) K = go (release_answer p.state task demand) refl
   where
-    go : (a : Answer) → release_answer p.state task demand ≡ a → Kept (next p (release task demand))
-    go Accepted q = rw q (kept_release p.state p.demands p.runs task demand K (accepted_says p.state task demand q))
-    go (Refused r) q = rw q K
+    go : (a : Result (Unit {0}) Refusal) → release_answer p.state task demand ≡ a → Kept (next p (release task demand))
+    go (Ok tt) q = rw q (kept_release p.state p.demands p.runs task demand K (accepted_says p.state task demand q))
+    go (Err r) q = rw q K
 kept_next p step K = kept_step p.state p.tally p.demands p.runs K
 kept_next p (lend t) K = kept_step p.state t p.demands p.runs K
 
@@ -184,15 +182,15 @@ pub counted_next : (p : Past) (call : Call) → Own call → p.state.n ≤ place
 unfolding next
 counted_next p (release task demand) own few C = go (release_answer p.state task demand) refl
   where
-    go : (a : Answer) → release_answer p.state task demand ≡ a → Counted (next p (release task demand))
-    go Accepted q = rw q (record { counted = C.counted; run_total = C.run_total })
-    go (Refused r) q = rw q C
+    go : (a : Result (Unit {0}) Refusal) → release_answer p.state task demand ≡ a → Counted (next p (release task demand))
+    go (Ok tt) q = rw q (record { counted = C.counted; run_total = C.run_total })
+    go (Err r) q = rw q C
 counted_next p step own few C = go (step_is p.state p.tally)
   where
     s : State
     s = p.state
 
-    by_tick : TickIs s → Counts (raised p.tally (count_of (head_of s) (tick_of s))) (after_tick s (tick_of s)) (ran p.runs (ticked.Tick (tick_of s)))
+    by_tick : TickIs s → Counts (raised p.tally (count_of (head_of s) (tick_of s))) (after_tick s (tick_of s)) (ran p.runs (Ok (tick_of s)))
     by_tick (slots a e) =
         let S = slot_raised (head_of s) p.tally in
         rw e (record { counted = omega (arith, C.counted, S.runs_stay, S.tails_stay, S.slots_up); run_total = S.runs_stay ∙ C.run_total })
@@ -214,7 +212,7 @@ own_after P keeps p [] own K x = x
 own_after P keeps p (call ∷ calls) own K x = own_after P keeps (next p call) calls own.1 (kept_next p call K) (keeps p call own.0 K x)
 
 -- A fresh start keeps both the accounts and the counts.
-pub kept_begun : (g : Given) (n : ℕ) → read_given g ≡ read.Sound n → Kept (begun (fresh_state g n))
+pub kept_begun : (g : Given) (n : ℕ) → read_given g ≡ Ok n → Kept (begun (fresh_state g n))
 kept_begun g n e =
     let L = fresh_lawful g n e in
     record {
@@ -227,10 +225,10 @@ pub counted_begun : (g : Given) (n : ℕ) → Counted (begun (fresh_state g n))
 counted_begun g n = record { counted = refl; run_total = sym (sum_to_zero places) }
 
 -- EVERY HISTORY FROM A FRESH START keeps the accounts, and the counts where it lends no other tally.
-pub history_kept : (g : Given) (n : ℕ) (calls : List Call) → read_given g ≡ read.Sound n → Kept (after (begun (fresh_state g n)) calls)
+pub history_kept : (g : Given) (n : ℕ) (calls : List Call) → read_given g ≡ Ok n → Kept (after (begun (fresh_state g n)) calls)
 history_kept g n calls e = kept_after (begun (fresh_state g n)) calls (kept_begun g n e)
 
-pub history_counted : (g : Given) (n : ℕ) (calls : List Call) → read_given g ≡ read.Sound n → Each Own calls → Counted (after (begun (fresh_state g n)) calls)
+pub history_counted : (g : Given) (n : ℕ) (calls : List Call) → read_given g ≡ Ok n → Each Own calls → Counted (after (begun (fresh_state g n)) calls)
 history_counted g n calls e own = own_after Counted (λ p call o K C. counted_next p call o K.lawful_state.few C) (begun (fresh_state g n)) calls own (kept_begun g n e) (counted_begun g n)
 
 -- The accounts of a history balance: run ticks and all work left are the accepted demands.

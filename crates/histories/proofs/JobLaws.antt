@@ -1,6 +1,7 @@
 -- Every accepted release is followed to its finish. A call changes the place of one task: a release finds its task at
 -- rest, so it takes the place of no job; a run works at its task's job, which goes on or is noted as a finish; any
 -- other call changes no place. No call takes a finish out of the list.
+use Rattle.std.specs.Prelude.{Result, Ok, Err}
 use Prim.Native.Nat.{ℕ, ◌+◌, ◌-◌, ◌<◌}
 use mathlib.Core.Path.{◌≡◌, refl, sym, ap, ◌∙◌}
 use mathlib.Core.Logic.{inl, inr}
@@ -11,15 +12,12 @@ use lib.Dec.{leb}
 use Rattle.base.specs.List.{In}
 use Rattle.base.proofs.Split.{by_eq}
 use Rattle.base.proofs.FoldLaws.{folded_keeps}
-use Rattle.table.specs.declared.Reading.TheVariants as read
+use Rattle.table.specs.declared.Refusal.{Refusal}
 use Rattle.decisions.specs.declared.Job.{Job}
 use Rattle.decisions.specs.declared.Job.TheVariants.{Resting, Working}
 use Rattle.decisions.specs.declared.Entry.{Entry}
 use Rattle.scheduler.specs.declared.State.{State}
 use Rattle.decisions.specs.declared.Tally.{Tally}
-use Rattle.scheduler.specs.declared.Ticked.TheVariants as ticked
-use Rattle.decisions.specs.declared.Answer.{Answer}
-use Rattle.decisions.specs.declared.Answer.TheVariants.{Accepted, Refused}
 use Rattle.decisions.specs.Fits.{clock_end}
 use Rattle.scheduler.specs.States.{entry_in, aged}
 use Rattle.scheduler.specs.Lawful.{LawfulState}
@@ -89,7 +87,7 @@ module _ (since : ℕ) (j : Taken) where
       → Standing (step_of s t).state (finished s fs (step_of s t).answer) since j
   stands_step s t fs size L S = go (step_is s t)
     where
-      by_tick : s.clock < clock_end → TickIs s → Standing (after_tick s (tick_of s)) (finished s fs (ticked.Tick (tick_of s))) since j
+      by_tick : s.clock < clock_end → TickIs s → Standing (after_tick s (tick_of s)) (finished s fs (Ok (tick_of s))) since j
       by_tick l (slots a e) = rw e (stands_still s fs S)
       by_tick l (tails a b e) = rw e (stands_still s fs S)
       by_tick l (runs a b e) =
@@ -108,9 +106,9 @@ module _ (since : ℕ) (j : Taken) where
   unfolding next
   stands_next p (release task demand) K S = go (release_answer p.state task demand) refl
     where
-      go : (a : Answer) → release_answer p.state task demand ≡ a → Stands (next p (release task demand))
-      go (Refused r) q = rw q S
-      go Accepted q = rw q (stands_release p.state task demand p.finishes K.sized (accepted_says p.state task demand q) S)
+      go : (a : Result (Unit {0}) Refusal) → release_answer p.state task demand ≡ a → Stands (next p (release task demand))
+      go (Err r) q = rw q S
+      go (Ok tt) q = rw q (stands_release p.state task demand p.finishes K.sized (accepted_says p.state task demand q) S)
   stands_next p step K S = stands_step p.state p.tally p.finishes K.sized K.lawful_state S
   stands_next p (lend t) K S = stands_step p.state t p.finishes K.sized K.lawful_state S
 
@@ -135,9 +133,9 @@ followed_next p (release task demand) K F = go (release_answer p.state task dema
         → Standing (released_state s task demand) p.finishes j.at j
     new A j e = rw e (going demand (omega arith) (ap {A = Entry} (λ x. x.job) (release_place s task demand K.sized A).place.here))
 
-    go : (a : Answer) → release_answer s task demand ≡ a → AllFollowed (next p (release task demand))
-    go (Refused r) q = rw q F
-    go Accepted q = rw q taken
+    go : (a : Result (Unit {0}) Refusal) → release_answer s task demand ≡ a → AllFollowed (next p (release task demand))
+    go (Err r) q = rw q F
+    go (Ok tt) q = rw q taken
       where
         A : FreeTask s task demand
         A = accepted_says s task demand q
@@ -149,7 +147,7 @@ followed_next p step K F = λ j i. stands_next j.at j p step K (F j i)
 followed_next p (lend t) K F = λ j i. stands_next j.at j p (lend t) K (F j i)
 
 -- EVERY ACCEPTED RELEASE OF A HISTORY IS FOLLOWED.
-pub history_followed : (g : Given) (n : ℕ) (calls : List Call) (j : Taken) → read_given g ≡ read.Sound n
+pub history_followed : (g : Given) (n : ℕ) (calls : List Call) (j : Taken) → read_given g ≡ Ok n
     → In j (after (begun (fresh_state g n)) calls).taken → Followed (after (begun (fresh_state g n)) calls) j
 unfolding In
 history_followed g n calls j e =

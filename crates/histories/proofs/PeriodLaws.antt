@@ -1,6 +1,7 @@
 -- Every whole period has V waking ticks and S − V slot ticks. Along a history that lends its own tally alone, r ticks
 -- into period q the counts are those of q whole periods and of the part of the slot that r ticks have passed. A tick in
 -- the slot moves r on by one within the period, since S is below H; another moves it on too, or ends the period.
+use Rattle.std.specs.Prelude.{Result, Ok, Err}
 use Prim.Native.Nat.{ℕ, ◌+◌, ◌-◌, ◌*◌, ◌%◌, ◌≤◌, ◌<◌}
 use mathlib.Core.Path.{◌≡◌, refl, ap, sym, ◌∙◌}
 use mathlib.Core.List.{List}
@@ -10,15 +11,13 @@ use native.Mathlib.Nat.{add-mul, one-mul, mul-add-mod_self_right, mul-mod_left, 
 use borrow.Author.Tests.{leb-true, leb-false}
 use Rattle.base.specs.List.{Each}
 use Rattle.base.proofs.Split.{by_lt}
+use Rattle.table.specs.declared.Refusal.{Refusal}
 use Rattle.decisions.specs.declared.Tally.{Tally}
 use Rattle.decisions.specs.declared.Tick.TheVariants.{Run, Slot}
 use Rattle.decisions.specs.declared.Count.TheVariants.{Runs, Slots, Tails, Wakings}
-use Rattle.decisions.specs.declared.Answer.{Answer}
-use Rattle.decisions.specs.declared.Answer.TheVariants.{Accepted, Refused}
 use Rattle.decisions.specs.Ticks.{wakes, count_of}
 use Rattle.scheduler.specs.declared.State.{State}
 use Rattle.scheduler.specs.States.{head_of, aged, record_in}
-use Rattle.table.specs.declared.Reading.TheVariants as read
 use Rattle.scheduler.specs.Starts.{Given, read_given, fresh_state}
 use Rattle.scheduler.specs.Releases.{release_answer}
 use Rattle.scheduler.specs.Steps.{first_ready, tick_of, after_tick, raised}
@@ -154,9 +153,9 @@ phase_next : (p : Past) (call : Call) → Own call → Kept p → Phase p.tally 
 unfolding next record_in
 phase_next p (release task demand) own K P = go (release_answer p.state task demand) refl
   where
-    go : (a : Answer) → release_answer p.state task demand ≡ a → Phase (next p (release task demand)).tally (next p (release task demand)).state
-    go Accepted q = rw q (record { periods = P.periods; rest = P.rest; within = P.within; clock_is = P.clock_is; slot_is = P.slot_is; waking_is = P.waking_is })
-    go (Refused r) q = rw q P
+    go : (a : Result (Unit {0}) Refusal) → release_answer p.state task demand ≡ a → Phase (next p (release task demand)).tally (next p (release task demand)).state
+    go (Ok tt) q = rw q (record { periods = P.periods; rest = P.rest; within = P.within; clock_is = P.clock_is; slot_is = P.slot_is; waking_is = P.waking_is })
+    go (Err r) q = rw q P
 phase_next p step own K P = go (step_is p.state p.tally)
   where
     go : StepIs p.state p.tally → Phase (next p step).tally (next p step).state
@@ -182,7 +181,7 @@ phase_whole t s k P e = record {
     same = eq_of_mul-eq-mul_right h (omega (arith, P.within)) P.periods k (omega (arith, P.clock_is, none, e))
 
 -- It holds of every history from a fresh start that lends its own tally alone, at each boundary.
-pub whole_periods : (g : Given) (n k : ℕ) (calls : List Call) → read_given g ≡ read.Sound n → Each Own calls
+pub whole_periods : (g : Given) (n k : ℕ) (calls : List Call) → read_given g ≡ Ok n → Each Own calls
     → let p = after (begun (fresh_state g n)) calls in p.state.clock ≡ k * p.state.sleep.period → WholePeriods p.tally p.state k
 unfolding slots_in wakings_in record_in
 whole_periods g n k calls e own =

@@ -1,5 +1,6 @@
 -- After a refused start nothing moves: every call on the state of no tasks is refused and leaves all as it was. So
 -- what is shown of histories from accepted starts holds of every history where it holds of one that stands still.
+use Rattle.std.specs.Prelude.{Result, Ok, Err}
 use Prim.Native.Nat.{ℕ, ◌+◌, ◌<◌}
 use mathlib.Core.Path.{◌≡◌, refl, ap, sym, ◌∙◌}
 use mathlib.Core.Logic.{◌⊎◌, inl, inr}
@@ -10,16 +11,13 @@ use Rattle.base.specs.List.{In}
 use Rattle.base.proofs.Split.{by_lt}
 use Rattle.base.proofs.SumLaws.{sum_to_zero}
 use Rattle.base.proofs.FoldLaws.{folded_keeps}
+use Rattle.table.specs.declared.Refusal.{Refusal}
 use Rattle.table.specs.declared.Refusal.TheVariants.{Unfit}
-use Rattle.table.specs.declared.Reading.{Reading}
-use Rattle.table.specs.declared.Reading.TheVariants as read
 use Rattle.table.specs.Sound.{places}
 use Rattle.decisions.specs.declared.Job.TheVariants.{Resting, Working}
 use Rattle.decisions.specs.declared.Entry.{Entry}
-use Rattle.decisions.specs.declared.Answer.TheVariants.{Refused}
 use Rattle.decisions.specs.declared.Tally.{Tally}
 use Rattle.decisions.specs.declared.Tick.{Tick}
-use Rattle.scheduler.specs.declared.Ticked.TheVariants as ticked
 use Rattle.scheduler.specs.declared.Moved.{Moved}
 use Rattle.decisions.specs.Fits.{no_entry, no_ticks}
 use Rattle.scheduler.specs.States.{entry_in, state_fits}
@@ -38,7 +36,7 @@ pub record Still (p : Past) : Type 0 where
   pub none_taken : p.taken ≡ []
   pub none_finished : p.finishes ≡ []
 
-no_release : (task demand : ℕ) → release_answer no_state task demand ≡ Refused Unfit
+no_release : (task demand : ℕ) → release_answer no_state task demand ≡ Err Unfit
 unfolding release_answer state_fits
 no_release task demand = refl
 
@@ -71,7 +69,7 @@ still_refusing p S = record {
 still_next : (p : Past) (call : Call) → Still p → Still (next p call)
 unfolding next
 still_next p (release task demand) S =
-    let a : release_answer p.state task demand ≡ Refused Unfit = rw S.state_is (no_release task demand) in
+    let a : release_answer p.state task demand ≡ Err Unfit = rw S.state_is (no_release task demand) in
     rw a (still_refusing p S)
 still_next p step S =
     let a : step_of p.state p.tally ≡ unmoved p.state p.tally Unfit = rw S.state_is (no_step p.tally) in
@@ -89,9 +87,9 @@ still_after calls = folded_keeps Still next still_next (begun no_state) calls
 pub started_or_still : (g : Given) (calls : List Call) → IsStarted g ⊎ Still (history g calls)
 started_or_still g calls = go (read_given g) refl
   where
-    go : (r : Reading) → read_given g ≡ r → IsStarted g ⊎ Still (history g calls)
-    go (read.Sound n) e = inl (rw e)
-    go (read.Refused r) e = inr (rw e (still_after calls))
+    go : (r : Result ℕ Refusal) → read_given g ≡ r → IsStarted g ⊎ Still (history g calls)
+    go (Ok n) e = inl (rw e)
+    go (Err r) e = inr (rw e (still_after calls))
 
 -- Where nothing moved every place is at rest, with nothing left.
 still_rests : (i : ℕ) → (entry_in no_state i).job ≡ Resting
@@ -109,10 +107,10 @@ pub still_released : (p : Past) → Still p → (j : Taken) → In j p.taken →
 unfolding In
 still_released p S j i = rw S.none_taken at i
 
-pub still_ticks : (p : Past) → Still p → (t : Tally) (tick : Tick) → (step_of p.state t).answer ≡ ticked.Tick tick → ⊥
+pub still_ticks : (p : Past) → Still p → (t : Tally) (tick : Tick) → (step_of p.state t).answer ≡ Ok tick → ⊥
 still_ticks p S t tick q =
-    let e : (step_of p.state t).answer ≡ ticked.Refused Unfit = rw S.state_is (ap {A = Moved} (λ m. m.answer) (no_step t)) in
-    let w : ticked.Refused Unfit ≡ ticked.Tick tick = sym e ∙ q in
+    let e : (step_of p.state t).answer ≡ Err Unfit = rw S.state_is (ap {A = Moved} (λ m. m.answer) (no_step t)) in
+    let w : Err Unfit ≡ Ok tick = sym e ∙ q in
     let z : ◌≡◌ {A = ℕ} 0 1 = cc in omega arith
 
 -- There the accounts hold task by task, and the counts.

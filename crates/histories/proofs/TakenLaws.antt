@@ -1,6 +1,7 @@
 -- Every job of a history comes from a release that it had accepted: a job at which a task is at work, and each that has
 -- finished. A task comes to work by an accepted release alone, which is noted; a run leaves a job of the same release,
 -- or notes the finish of it. So the list of the accepted releases leaves no job out.
+use Rattle.std.specs.Prelude.{Result, Ok, Err}
 use Prim.Native.Nat.{ℕ, ◌+◌, ◌-◌, ◌<◌}
 use mathlib.Core.Path.{◌≡◌, refl, sym, ap, ◌∙◌}
 use mathlib.Core.Logic.{inl, inr}
@@ -11,16 +12,13 @@ use lib.Dec.{leb}
 use Rattle.base.specs.List.{In}
 use Rattle.base.proofs.Split.{by_eq}
 use Rattle.base.proofs.FoldLaws.{folded_keeps}
-use Rattle.table.specs.declared.Reading.TheVariants as read
+use Rattle.table.specs.declared.Refusal.{Refusal}
 use Rattle.table.specs.Sound.{places}
 use Rattle.decisions.specs.declared.Job.{Job}
 use Rattle.decisions.specs.declared.Job.TheVariants.{Resting, Working}
 use Rattle.decisions.specs.declared.Entry.{Entry}
 use Rattle.scheduler.specs.declared.State.{State}
 use Rattle.decisions.specs.declared.Tally.{Tally}
-use Rattle.scheduler.specs.declared.Ticked.TheVariants as ticked
-use Rattle.decisions.specs.declared.Answer.{Answer}
-use Rattle.decisions.specs.declared.Answer.TheVariants.{Accepted, Refused}
 use Rattle.decisions.specs.Fits.{clock_end}
 use Rattle.scheduler.specs.States.{entry_in}
 use Rattle.scheduler.specs.Lawful.{LawfulState}
@@ -89,7 +87,7 @@ sourced_step : (s : State) (t : Tally) (taken : List Taken) (fs : List Finish) �
     → Sourced (step_of s t).state taken (finished s fs (step_of s t).answer)
 sourced_step s t taken fs size L S = go (step_is s t)
   where
-    by_tick : s.clock < clock_end → TickIs s → Sourced (after_tick s (tick_of s)) taken (finished s fs (ticked.Tick (tick_of s)))
+    by_tick : s.clock < clock_end → TickIs s → Sourced (after_tick s (tick_of s)) taken (finished s fs (Ok (tick_of s)))
     by_tick l (slots a e) = rw e (record { working = S.working; finishing = S.finishing })
     by_tick l (tails a b e) = rw e (record { working = S.working; finishing = S.finishing })
     by_tick l (runs a b e) =
@@ -105,14 +103,14 @@ sourced_next : (p : Past) (call : Call) → Kept p → FromReleases p → FromRe
 unfolding next
 sourced_next p (release task demand) K S = go (release_answer p.state task demand) refl
   where
-    go : (a : Answer) → release_answer p.state task demand ≡ a → FromReleases (next p (release task demand))
-    go (Refused r) q = rw q S
-    go Accepted q = rw q (sourced_release p.state task demand p.taken p.finishes K.sized (accepted_says p.state task demand q) S)
+    go : (a : Result (Unit {0}) Refusal) → release_answer p.state task demand ≡ a → FromReleases (next p (release task demand))
+    go (Err r) q = rw q S
+    go (Ok tt) q = rw q (sourced_release p.state task demand p.taken p.finishes K.sized (accepted_says p.state task demand q) S)
 sourced_next p step K S = sourced_step p.state p.tally p.taken p.finishes K.sized K.lawful_state S
 sourced_next p (lend t) K S = sourced_step p.state t p.taken p.finishes K.sized K.lawful_state S
 
 -- EVERY JOB OF A HISTORY WAS RELEASED.
-pub history_sourced : (g : Given) (n : ℕ) (calls : List Call) → read_given g ≡ read.Sound n → FromReleases (after (begun (fresh_state g n)) calls)
+pub history_sourced : (g : Given) (n : ℕ) (calls : List Call) → read_given g ≡ Ok n → FromReleases (after (begun (fresh_state g n)) calls)
 unfolding In
 history_sourced g n calls e =
     (folded_keeps (λ (q : Past). Kept q × FromReleases q) next (λ q call x. (kept_next q call x.0, sourced_next q call x.0 x.1))

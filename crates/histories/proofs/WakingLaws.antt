@@ -1,6 +1,7 @@
 -- The waking length is read in two places only: in the test of a state's rules, which it passes along a history, and
 -- where a slot tick is counted. So two histories with the same calls go the same way, and their tallies differ at most
 -- in how slot ticks are split.
+use Rattle.std.specs.Prelude.{Result, Ok, Err}
 use Prim.Native.Nat.{ℕ, ◌-◌, ◌%◌, ◌<◌}
 use mathlib.Core.Path.{◌≡◌, refl, ap, sym, subst, ◌∙◌}
 use mathlib.Core.List.{List, [], ◌∷◌}
@@ -10,6 +11,7 @@ use borrow.Author.Tests.{lt-leb}
 use Rattle.base.specs.Fold.{folded}
 use Rattle.base.proofs.FirstLaws.{first_same}
 use Rattle.base.proofs.FoldLaws.{folded_keeps}
+use Rattle.table.specs.declared.Refusal.{Refusal}
 use Rattle.decisions.specs.declared.Job.{Job}
 use Rattle.decisions.specs.declared.Job.TheVariants.{Resting, Working}
 use Rattle.scheduler.specs.declared.State.{State}
@@ -18,10 +20,6 @@ use Rattle.decisions.specs.declared.Tally.{Tally}
 use Rattle.decisions.specs.declared.Tick.{Tick}
 use Rattle.decisions.specs.declared.Tick.TheVariants.{Run, Slot, Tail}
 use Rattle.scheduler.specs.declared.Moved.{Moved}
-use Rattle.scheduler.specs.declared.Ticked.{Ticked}
-use Rattle.scheduler.specs.declared.Ticked.TheVariants as ticked
-use Rattle.decisions.specs.declared.Answer.{Answer}
-use Rattle.decisions.specs.declared.Answer.TheVariants.{Accepted, Refused}
 use Rattle.decisions.specs.Fits.{total}
 use Rattle.decisions.specs.Asks.{ask_demand, ask_task, may_release, may_step}
 use Rattle.decisions.specs.Ticks.{may_run, count_of}
@@ -85,20 +83,20 @@ pub steps_same : (s : State) (v : ℕ) (t u : Tally) → LawfulState s → Lawfu
 unfolding step_of
 steps_same s v t u L M e = go (may_step true t s.clock) (rw (says_fits s L)) (rw (says_fits (with_waking s v) M, e))
   where
-    go : (a : Answer) → step_of s t ≡ step_from s t a → step_of (with_waking s v) u ≡ step_from (with_waking s v) u a → StepsSame s v t u
-    go Accepted p q = record {
+    go : (a : Result (Unit {0}) Refusal) → step_of s t ≡ step_from s t a → step_of (with_waking s v) u ≡ step_from (with_waking s v) u a → StepsSame s v t u
+    go (Ok tt) p q = record {
       answer_same = rw (p, q, tick_same s v);
       state_same = rw (p, q, tick_same s v) (after_same s v (tick_of s));
       split_kept = rw (p, q, tick_same s v) (split_raised (head_of s) (head_of (with_waking s v)) (tick_of s) t u);
     }
-    go (Refused r) p q = record { answer_same = rw (p, q); state_same = rw (p, q); split_kept = rw (p, q) (λ S. S) }
+    go (Err r) p q = record { answer_same = rw (p, q); state_same = rw (p, q); split_kept = rw (p, q) (λ S. S) }
 
 -- A finish is noted alike.
-finished_same : (s : State) (v : ℕ) (list : List Finish) (answer : Ticked) → finished (with_waking s v) list answer ≡ finished s list answer
-finished_same s v list (ticked.Tick (Run k)) = refl
-finished_same s v list (ticked.Tick Slot) = refl
-finished_same s v list (ticked.Tick Tail) = refl
-finished_same s v list (ticked.Refused r) = refl
+finished_same : (s : State) (v : ℕ) (list : List Finish) (answer : Result Tick Refusal) → finished (with_waking s v) list answer ≡ finished s list answer
+finished_same s v list (Ok (Run k)) = refl
+finished_same s v list (Ok Slot) = refl
+finished_same s v list (Ok Tail) = refl
+finished_same s v list (Err r) = refl
 
 -- Two pasts go the same way where they differ in the waking length and the split alone.
 pub record GoesSame (v : ℕ) (p q : Past) : Type 0 where
@@ -115,9 +113,9 @@ same_next : (p : Past) (v : ℕ) (u : Tally) (call : Call) → LawfulState p.sta
 unfolding next
 same_next p v u (release task demand) L M S = go (release_answer p.state task demand) refl
   where
-    go : (a : Answer) → release_answer p.state task demand ≡ a → GoesSame v (next p (release task demand)) (next (with_split p v u) (release task demand))
-    go Accepted e = rw (release_same p.state v task demand L M, e) (record { same = refl; split = S })
-    go (Refused r) e = rw (release_same p.state v task demand L M, e) (record { same = refl; split = S })
+    go : (a : Result (Unit {0}) Refusal) → release_answer p.state task demand ≡ a → GoesSame v (next p (release task demand)) (next (with_split p v u) (release task demand))
+    go (Ok tt) e = rw (release_same p.state v task demand L M, e) (record { same = refl; split = S })
+    go (Err r) e = rw (release_same p.state v task demand L M, e) (record { same = refl; split = S })
 same_next p v u step L M S =
     let T = steps_same p.state v p.tally u L M (total_same p.tally u S) in
     record { same = stepped_same p v u p.tally u (step_of p.state p.tally).tally (step_of (with_waking p.state v) u).tally T; split = T.split_kept S }
@@ -151,9 +149,9 @@ next_stays : (p : Past) (call : Call) → (next p call).state.waking ≡ p.state
 unfolding next
 next_stays p (release task demand) = go (release_answer p.state task demand) refl
   where
-    go : (a : Answer) → release_answer p.state task demand ≡ a → (next p (release task demand)).state.waking ≡ p.state.waking
-    go Accepted q = rw q
-    go (Refused r) q = rw q
+    go : (a : Result (Unit {0}) Refusal) → release_answer p.state task demand ≡ a → (next p (release task demand)).state.waking ≡ p.state.waking
+    go (Ok tt) q = rw q
+    go (Err r) q = rw q
 next_stays p step = step_stays p.state p.tally
 next_stays p (lend t) = step_stays p.state t
 
@@ -161,7 +159,7 @@ pub after_stays : (p : Past) (calls : List Call) → (after p calls).state.wakin
 after_stays p calls = folded_keeps (λ (q : Past). q.state.waking ≡ p.state.waking) next (λ q call e. next_stays q call ∙ e) p calls refl
 
 -- What a step that answers a tick leaves in the tally.
-pub tick_counts : (s : State) (t : Tally) (tick : Tick) → (step_of s t).answer ≡ ticked.Tick tick → (step_of s t).tally ≡ raised t (count_of (head_of s) tick)
+pub tick_counts : (s : State) (t : Tally) (tick : Tick) → (step_of s t).answer ≡ Ok tick → (step_of s t).tally ≡ raised t (count_of (head_of s) tick)
 tick_counts s t tick e =
     let k = (step_ticks_exactly s t tick).0 e in
     ap {A = Moved} (λ m. m.tally) (step_made s t k.0.lawful_state k.0.counted k.1) ∙ ap (λ (x : Tick). raised t (count_of (head_of s) x)) k.2

@@ -1,17 +1,15 @@
 -- Histories are lists of calls on a node, refused ones among them; this file says what they make of a start. A history
 -- has a tally of its own, zeros first, that a step brings up to date; a step may lend another one instead.
-use Rattle.std.specs.Prelude.{ℕ, ◌+◌, ◌-◌, ◌≤◌, ◌≡◌, List, [], ◌∷◌, cond, leb}
+use Rattle.std.specs.Prelude.{ℕ, ◌+◌, ◌-◌, ◌≤◌, ◌≡◌, List, [], ◌∷◌, cond, leb, Result, Ok, Err}
 use Rattle.base.specs.Sum.{plus_at}
 use Rattle.base.specs.Fold.{folded}
+use Rattle.table.specs.declared.Refusal.{Refusal}
+use Rattle.decisions.specs.declared.Tick.{Tick}
 use Rattle.decisions.specs.declared.Job.{Job}
 use Rattle.decisions.specs.declared.Job.TheVariants.{Resting, Working}
 use Rattle.scheduler.specs.declared.State.{State}
 use Rattle.decisions.specs.declared.Tally.{Tally}
 use Rattle.decisions.specs.declared.Tick.TheVariants.{Run, Slot, Tail}
-use Rattle.scheduler.specs.declared.Ticked.{Ticked}
-use Rattle.scheduler.specs.declared.Ticked.TheVariants as ticked
-use Rattle.decisions.specs.declared.Answer.{Answer}
-use Rattle.decisions.specs.declared.Answer.TheVariants.{Accepted, Refused}
 use Rattle.decisions.specs.Fits.{no_ticks}
 use Rattle.scheduler.specs.States.{entry_in}
 use Rattle.scheduler.specs.Starts.{Given, start_of}
@@ -55,41 +53,41 @@ pub record Past : Type 0 where
   pub finishes : List Finish
 
 -- An accepted release adds its demand to the sum at its task's place.
-abbrev pub demanded : ℕ → ℕ → (ℕ → ℕ) → Answer → ℕ → ℕ
-demanded task demand f Accepted = plus_at (task - 1) demand f
-demanded task demand f (Refused r) = f
+abbrev pub demanded : ℕ → ℕ → (ℕ → ℕ) → Result (Unit {0}) Refusal → ℕ → ℕ
+demanded task demand f (Ok tt) = plus_at (task - 1) demand f
+demanded task demand f (Err r) = f
 
 -- A run adds one to the ticks run at its task's place.
-abbrev pub ran : (ℕ → ℕ) → Ticked → ℕ → ℕ
-ran f (ticked.Tick (Run k)) = plus_at (k - 1) 1 f
-ran f (ticked.Tick Slot) = f
-ran f (ticked.Tick Tail) = f
-ran f (ticked.Refused r) = f
+abbrev pub ran : (ℕ → ℕ) → Result Tick Refusal → ℕ → ℕ
+ran f (Ok (Run k)) = plus_at (k - 1) 1 f
+ran f (Ok Slot) = f
+ran f (Ok Tail) = f
+ran f (Err r) = f
 
 -- A refused call counts one refusal, whether it is a release or a step.
-abbrev pub refused_release : Answer → ℕ
-refused_release Accepted = 0
-refused_release (Refused r) = 1
+abbrev pub refused_release : Result (Unit {0}) Refusal → ℕ
+refused_release (Ok tt) = 0
+refused_release (Err r) = 1
 
-abbrev pub refused_step : Ticked → ℕ
-refused_step (ticked.Tick t) = 0
-refused_step (ticked.Refused r) = 1
+abbrev pub refused_step : Result Tick Refusal → ℕ
+refused_step (Ok t) = 0
+refused_step (Err r) = 1
 
 -- An accepted release is noted in the list.
-abbrev pub noted : Taken → List Taken → Answer → List Taken
-noted this list Accepted = this ∷ list
-noted this list (Refused r) = list
+abbrev pub noted : Taken → List Taken → Result (Unit {0}) Refusal → List Taken
+noted this list (Ok tt) = this ∷ list
+noted this list (Err r) = list
 
 -- A run of a job's last unit is noted as a finish.
 abbrev pub ended : ℕ → ℕ → List Finish → Job → List Finish
 ended place clock list Resting = list
 ended place clock list (Working a l) = cond (leb l 1) (record { place = place; release = a; at = clock } ∷ list) list
 
-abbrev pub finished : State → List Finish → Ticked → List Finish
-finished s list (ticked.Tick (Run k)) = ended (k - 1) (s.clock + 1) list (entry_in s (k - 1)).job
-finished s list (ticked.Tick Slot) = list
-finished s list (ticked.Tick Tail) = list
-finished s list (ticked.Refused r) = list
+abbrev pub finished : State → List Finish → Result Tick Refusal → List Finish
+finished s list (Ok (Run k)) = ended (k - 1) (s.clock + 1) list (entry_in s (k - 1)).job
+finished s list (Ok Slot) = list
+finished s list (Ok Tail) = list
+finished s list (Err r) = list
 
 -- `stepped` is what a step that lends t leaves, `own` being the history's own tally after it.
 abbrev pub stepped : Past → Tally → Tally → Past

@@ -1,6 +1,7 @@
 -- What was written is read back: a state of 16 places is read back as it was, and words that encode a state are written
 -- back as they were. So it is with a tally. The words of a state of which one place's are put are those of the state
 -- with that entry.
+use Rattle.std.specs.Prelude.{Option, Some, None}
 use Prim.Native.Nat.{ℕ, zero, suc, ◌+◌, ◌-◌, ◌*◌, ◌/◌, ◌%◌, ◌≤◌, ◌<◌}
 use mathlib.Core.Path.{◌≡◌, refl, sym, ◌∙◌, ap}
 use mathlib.Core.Logic.{◌⊎◌, inl, inr}
@@ -10,7 +11,10 @@ use native.Mathlib.Omega.{arith}
 use native.Mathlib.Numerals.{add-one}
 use lib.Bits.{bit_or, or_add_and, and_le_l, and_le_r}
 use lib.Dec.{eqb}
-use lib.ListN.{length, get_or, set, length-append, get_or-append}
+use lib.ListN.{length, get_or, get_or-eq_default, set, drop, length-append, get_or-append}
+use Rattle.std.specs.List.{list_all}
+use Rattle.std.proofs.lemmas.List.{length-take-le, length-drop, get_or-take, get_or-drop, drop-drop, take-append-drop}
+use Rattle.std.proofs.lemmas.List.Folds.{list_all-append}
 use lib.Seq.{get_or-append-add, get_or-set_same, get_or-set_other, ext_get_or}
 use borrow.Author.Tests.{eq-eqb, ne_eqb, eqb-true}
 use Rattle.base.proofs.Split.{by_eq, by_lt}
@@ -18,10 +22,10 @@ use Rattle.base.specs.List.{list_from}
 use Rattle.table.specs.declared.Record.{Record}
 use Rattle.table.specs.Sound.{places}
 use Rattle.admission.specs.declared.Verdict.{Verdict}
+use Rattle.admission.specs.declared.Row.{Row}
+use Rattle.admission.specs.Verdicts.{no_row}
 use Rattle.decisions.specs.declared.Job.{Job}
 use Rattle.decisions.specs.declared.Job.TheVariants.{Resting, Working}
-use Rattle.decisions.specs.declared.Last.{Last}
-use Rattle.decisions.specs.declared.Last.TheVariants.{Never, At}
 use Rattle.decisions.specs.declared.Entry.{Entry}
 use Rattle.scheduler.specs.declared.State.{State}
 use Rattle.decisions.specs.declared.Count.{Count}
@@ -33,9 +37,9 @@ use Rattle.decisions.specs.Ticks.{worked_of}
 use Rattle.scheduler.specs.Steps.{after_run, raised}
 use Rattle.base.proofs.EveryLaws.{every_says, says_every}
 use Rattle.node.specs.Words.{puts}
-use Rattle.node.specs.Layout.{head_size, clock_at, run_at, slot_at, tail_at, wakings_at, label_at, work_at, period_at, reserved_at, job_at, release_at, left_at, last_at, tick_at, place_size, state_size, place_start, tally_size, record_words, job_words, last_words, entry_words, places_words, head_words, state_words, tally_words, verdict_size, by_place, verdict_words, word_in, record_from, job_from, last_from, entry_from, entries_in, state_in, tally_in, any_word, kind_encoded, place_encoded, encoded}
+use Rattle.node.specs.Layout.{verdict_size, verdict_words, head_size, clock_at, run_at, slot_at, tail_at, wakings_at, label_at, work_at, period_at, reserved_at, job_at, release_at, left_at, last_at, tick_at, place_size, state_size, place_start, tally_size, record_words, job_words, last_words, entry_words, places_words, head_words, state_words, tally_words, word_in, job_from, last_from, entry_from, entries_in, state_in, tally_in, place_of, kind_encoded, place_encoded, encoded}
 use Rattle.base.proofs.ListLaws.{length_list, list_at, list_same, list_back}
-use Rattle.node.proofs.WordLaws.{length_puts, puts_out, puts_in, puts_append, puts_from, puts_whole}
+use Rattle.node.proofs.WordLaws.{length_puts, puts_out, puts_in, puts_more, puts_whole}
 
 -- Words that encode a state are as many as it has, and every place among them is encoded.
 pub encoded_length : (words : List ℕ) → encoded words ≡ true → length words ≡ state_size
@@ -50,12 +54,35 @@ encoded_place words i e l = every_says (λ i. place_encoded words (place_start i
 pub entry_is : (words : List ℕ) (i : ℕ) → i < places → get_or (entries_in words) i no_entry ≡ entry_from words (place_start i)
 entry_is words i l = list_at (λ i. entry_from words (place_start i)) places i no_entry l
 
+-- THE WORDS OF A PLACE among those of a state are read there as they are in the state.
+place_list : (words : List ℕ) (i : ℕ) → length words ≡ state_size → i < places → place_of words i ≡ list_from (λ q. word_in words (place_start i + q)) place_size
+place_list words i long l =
+    let nine : length (place_of words i) ≡ place_size = length-take-le place_size (drop (place_start i) words) (omega (arith, length-drop (place_start i) words)) in
+    sym (list_back (place_of words i) 0) ∙ ap (list_from (word_in (place_of words i))) nine
+    ∙ list_same (word_in (place_of words i)) (λ q. word_in words (place_start i + q)) place_size
+    (λ q m. get_or-take place_size (drop (place_start i) words) q 0 m ∙ get_or-drop (place_start i) words q 0)
+
+-- A state that was read has its 16 places, and no entry after them.
+pub read_whole : (words : List ℕ) → length (state_in words).entries ≡ places
+read_whole words = length_list (λ i. entry_from words (place_start i)) places
+
+pub no_place : (words : List ℕ) (i : ℕ) → places ≤ i → get_or (entries_in words) i no_entry ≡ no_entry
+no_place words i l = get_or-eq_default (entries_in words) no_entry (omega (arith, read_whole words))
+
+pub entry_at : (words : List ℕ) (i : ℕ) → length words ≡ state_size → i < places → entry_from (place_of words i) 0 ≡ get_or (entries_in words) i no_entry
+unfolding list_from
+entry_at words i long l = rw (entry_is words i l, place_list words i long l)
+
+pub encoded_at : (words : List ℕ) (i : ℕ) → length words ≡ state_size → i < places → place_encoded (place_of words i) 0 ≡ place_encoded words (place_start i)
+unfolding list_from
+encoded_at words i long l = rw (place_list words i long l)
+
 -- These laws say how many words a place, some places and a state have.
-nine_words : (r : Record) (j : Job) (l : Last) → length (record_words r ++ job_words j ++ last_words l) ≡ place_size
-nine_words r Resting Never = refl
-nine_words r Resting (At a) = refl
-nine_words r (Working b m) Never = refl
-nine_words r (Working b m) (At a) = refl
+nine_words : (r : Record) (j : Job) (l : Option ℕ) → length (record_words r ++ job_words j ++ last_words l) ≡ place_size
+nine_words r Resting None = refl
+nine_words r Resting (Some a) = refl
+nine_words r (Working b m) None = refl
+nine_words r (Working b m) (Some a) = refl
 
 pub length_entry : (e : Entry) → length (entry_words e) ≡ place_size
 length_entry e = nine_words e.task e.job e.last
@@ -110,45 +137,40 @@ entry_words_lem words k e =
     ap (λ (js : List ℕ). r ++ js ++ last_words (entry_from words k).last) (job_words_lem (word_in words (k + job_at)) (word_in words (k + release_at)) (word_in words (k + left_at)) b.0)
     ∙ ap (λ (ts : List ℕ). r ++ (word_in words (k + job_at) ∷ word_in words (k + release_at) ∷ word_in words (k + left_at) ∷ []) ++ ts) (last_words_lem (word_in words (k + last_at)) (word_in words (k + tick_at)) b.1)
 
--- ONE MORE word of a list, or place of a state, is put after those that were put before it.
-pub one_more_put : (words : List ℕ) (k : ℕ) (f : ℕ → ℕ) (i : ℕ) → puts words k 0 (list_from f (i + 1)) ≡ set (puts words k 0 (list_from f i)) (k + i) (f i)
-unfolding list_from
-one_more_put words k f i =
-    let e : 0 + i ≡ i = omega arith in
-    rw add-one (puts_append words k 0 (list_from f i) (f i ∷ []) ∙ rw (length_list f i, e))
-
-pub place_more_put : (words : List ℕ) (es : List Entry) (i : ℕ)
-    → puts words 0 head_size (places_words es (i + 1)) ≡ puts (puts words 0 head_size (places_words es i)) (place_start i) 0 (entry_words (get_or es i no_entry))
+-- ONE MORE place of a state is put after what was put before it.
+pub place_more_put : (words : List ℕ) (s : State) (i : ℕ)
+    → puts (puts words 0 (head_words s ++ places_words s.entries i)) (place_start i) (entry_words (entry_in s i)) ≡ puts words 0 (head_words s ++ places_words s.entries (i + 1))
 unfolding places_words
-place_more_put words es i =
-    let e : place_start i + 0 ≡ head_size + length (places_words es i) = omega (arith, length_places es i) in
-    rw add-one (puts_append words 0 head_size (places_words es i) (entry_words (get_or es i no_entry)) ∙ sym (puts_from (puts words 0 head_size (places_words es i)) (place_start i) 0 (entry_words (get_or es i no_entry)) ∙ rw e))
+place_more_put words s i =
+    rw add-one (puts_more words (head_words s ++ places_words s.entries i) (entry_words (entry_in s i)) (place_start i) (omega (arith, length_places s.entries i))
+    ∙ ap (puts words 0) (append_assoc (head_words s) (places_words s.entries i) (entry_words (entry_in s i))))
 
 -- ALL WORDS of a state, and of a verdict, are there once their parts are put.
-pub state_put : (words : List ℕ) (s : State) → length words ≡ state_size → puts (puts words 0 0 (head_words s)) 0 head_size (places_words s.entries places) ≡ state_words s
-state_put words s long =
-    sym (puts_append words 0 0 (head_words s) (places_words s.entries places)) ∙ puts_whole words (state_words s) (length_state s ∙ sym long)
-
-pub verdict_put : (words : List ℕ) (v : Verdict) → length words ≡ verdict_size
-    → puts (puts (puts words 0 0 (by_place v.windows)) places 0 (by_place v.figures)) (places + places) 0 (by_place v.rounds) ≡ verdict_words v
-unfolding list_from
-verdict_put words v long =
-    let W = by_place v.windows in
-    let F = by_place v.figures in
-    let R = by_place v.rounds in
-    let w : length W ≡ places = length_list (λ i. get_or v.windows i 0) places in
-    let f : length F ≡ places = length_list (λ i. get_or v.figures i 0) places in
-    let r : length R ≡ places = length_list (λ i. get_or v.rounds i 0) places in
-    let first = puts words 0 0 W in
-    ap (λ (x : List ℕ). puts x (places + places) 0 R) (puts_from first places 0 F) ∙ puts_from (puts first 0 places F) (places + places) 0 R
-    ∙ sym (puts_append words 0 0 (W ++ F) R ∙ ap (λ (x : List ℕ). puts x 0 (length (W ++ F)) R) (puts_append words 0 0 W F) ∙ rw (length-append W F, w, f))
-    ∙ puts_whole words (verdict_words v) (simp length-append (omega arith))
+pub state_put : (words : List ℕ) (s : State) → length words ≡ state_size → puts words 0 (state_words s) ≡ state_words s
+state_put words s long = puts_whole words (state_words s) (length_state s ∙ sym long)
 
 -- A list comes in two parts: its first m elements, and the n after them.
 list_more : {A : Type 0} (f : ℕ → A) (m n : ℕ) → list_from f (m + n) ≡ list_from f m ++ list_from (λ q. f (m + q)) n
 unfolding list_from
 list_more f m zero = let e : m + 0 ≡ m = omega arith in rw (e, append-nil)
 list_more f m (suc n) = let e : m + suc n ≡ suc (m + n) = omega arith in rw e (rw (list_more f m n, append_assoc))
+
+-- `RowPut` says that the parts of the row at place k stand among some words.
+pub record RowPut (words : List ℕ) (row : Row) (k : ℕ) : Type 0 where
+  pub window : word_in words k ≡ row.window
+  pub figure : word_in words (places + k) ≡ row.figure
+  pub rounds : word_in words (places + places + k) ≡ row.rounds
+
+pub verdict_put : (words : List ℕ) (v : Verdict) → length words ≡ verdict_size → ((k : ℕ) → k < places → RowPut words (get_or v.rows k no_row) k) → words ≡ verdict_words v
+verdict_put words v long put =
+    sym (list_back words 0) ∙ ap (list_from (word_in words)) long
+    ∙ list_more (word_in words) (places + places) places
+    ∙ ap (λ (xs : List ℕ). xs ++ list_from (λ q. word_in words (places + places + q)) places) (list_more (word_in words) places places)
+    ∙ rw (
+      list_same (word_in words) (λ i. (get_or v.rows i no_row).window) places (λ k l. (put k l).window),
+      list_same (λ q. word_in words (places + q)) (λ i. (get_or v.rows i no_row).figure) places (λ k l. (put k l).figure),
+      list_same (λ q. word_in words (places + places + q)) (λ i. (get_or v.rows i no_row).rounds) places (λ k l. (put k l).rounds),
+    )
 
 -- WORDS THAT ENCODE A STATE are written back as they were, the head first and then place by place.
 written : (words : List ℕ) (n : ℕ) → n ≤ places → encoded words ≡ true → head_words (state_in words) ++ places_words (entries_in words) n ≡ list_from (word_in words) (place_start n)
@@ -174,13 +196,13 @@ entry_back s i l =
     rw (w 0 (omega arith), w 1 (omega arith), w 2 (omega arith), w 3 (omega arith), w 4 (omega arith), w 5 (omega arith), w 6 (omega arith), w 7 (omega arith), w 8 (omega arith))
     (by_kind (entry_in s i).task (entry_in s i).job (entry_in s i).last)
   where
-    by_kind : (t : Record) (j : Job) (l : Last)
+    by_kind : (t : Record) (j : Job) (l : Option ℕ)
         → (◌≡◌ {A = Entry} (entry_from (record_words t ++ job_words j ++ last_words l) 0) (record { task = t; job = j; last = l }))
         × (place_encoded (record_words t ++ job_words j ++ last_words l) 0 ≡ true)
-    by_kind t Resting Never = (refl, refl)
-    by_kind t Resting (At a) = (refl, refl)
-    by_kind t (Working b m) Never = (refl, refl)
-    by_kind t (Working b m) (At a) = (refl, refl)
+    by_kind t Resting None = (refl, refl)
+    by_kind t Resting (Some a) = (refl, refl)
+    by_kind t (Working b m) None = (refl, refl)
+    by_kind t (Working b m) (Some a) = (refl, refl)
 
 pub read_back : (s : State) → length s.entries ≡ places → state_in (state_words s) ≡ s
 read_back s whole = ap {A = List Entry} {B = State} (λ es. with_entries s es)
@@ -197,47 +219,50 @@ unfolding list_from
 tally_written_back words e = rw e at (list_back words 0)
 
 -- A PLACE IS PUT into the words of a state, and they are the words of the state with that entry.
-pub entry_put : (s : State) (i : ℕ) (e : Entry) → length s.entries ≡ places → i < places → puts (state_words s) (place_start i) 0 (entry_words e) ≡ state_words (with_entry s i e)
+pub entry_put : (s : State) (i : ℕ) (e : Entry) → length s.entries ≡ places → i < places → puts (state_words s) (place_start i) (entry_words e) ≡ state_words (with_entry s i e)
 entry_put s i e whole l =
-    ext_get_or 0 put (state_words t) (length_puts (state_words s) (place_start i) 0 (entry_words e) ∙ length_state s ∙ sym (length_state t)) (λ m lm. by_lt m head_size (get_or put m 0 ≡ word_in (state_words t) m)
-    (λ h. puts_out (state_words s) (place_start i) 0 (entry_words e) m (inl (omega arith)) ∙ get_or-append (head_words s) (places_words s.entries places) 0 m h ∙ sym (get_or-append (head_words s) (places_words t.entries places) 0 m h))
+    ext_get_or 0 put (state_words t) (length_puts (state_words s) (place_start i) (entry_words e) room ∙ length_state s ∙ sym (length_state t)) (λ m lm. by_lt m head_size (get_or put m 0 ≡ word_in (state_words t) m)
+    (λ h. stays m (inl (omega arith)) ∙ get_or-append (head_words s) (places_words s.entries places) 0 m h ∙ sym (get_or-append (head_words s) (places_words t.entries places) 0 m h))
     (λ g. let p = (m - head_size) / place_size in
     let q = (m - head_size) % place_size in
     let split : m ≡ place_start p + q = omega arith in
-    rw split (place p q (omega (arith, length_puts (state_words s) (place_start i) 0 (entry_words e), length_state s)) (omega arith))))
+    rw split (place p q (omega (arith, length_puts (state_words s) (place_start i) (entry_words e) room, length_state s)) (omega arith))))
   where
     t : State
     t = with_entry s i e
 
     put : List ℕ
-    put = puts (state_words s) (place_start i) 0 (entry_words e)
+    put = puts (state_words s) (place_start i) (entry_words e)
+
+    room : place_start i + length (entry_words e) ≤ length (state_words s)
+    room = omega (arith, length_entry e, length_state s)
+
+    stays : (m : ℕ) → (m < place_start i) ⊎ (place_start i + length (entry_words e) ≤ m) → get_or put m 0 ≡ word_in (state_words s) m
+    stays = puts_out (state_words s) (place_start i) (entry_words e) room
 
     place : (p q : ℕ) → p < places → q < place_size → get_or put (place_start p + q) 0 ≡ word_in (state_words t) (place_start p + q)
     place p q lp lq = by_eq p i (get_or put (place_start p + q) 0 ≡ word_in (state_words t) (place_start p + q))
-        (λ here. let f : place_start p + q ≡ place_start i + 0 + q = omega arith in
-        ap (λ (y : ℕ). get_or put y 0) f
-        ∙ puts_in (state_words s) (place_start i) 0 (entry_words e) q (omega (arith, length_entry e, length_state s)) (omega (arith, length_entry e))
+        (λ here. ap (λ (y : ℕ). get_or put (place_start y + q) 0) here
+        ∙ puts_in (state_words s) (place_start i) (entry_words e) room q (omega (arith, length_entry e))
         ∙ sym (place_word t p q lp lq ∙ ap (λ (y : Entry). get_or (entry_words y) q 0) (ap (entry_in t) here ∙ get_or-set_same s.entries i e no_entry (omega arith))))
-        (λ there. puts_out (state_words s) (place_start i) 0 (entry_words e) (place_start p + q) (by_lt p i ((place_start p + q < place_start i + 0) ⊎ (place_start i + 0 + length (entry_words e) ≤ place_start p + q)) (λ b. inl (omega arith)) (λ b. inr (omega (arith, length_entry e))))
+        (λ there. stays (place_start p + q) (by_lt p i ((place_start p + q < place_start i) ⊎ (place_start i + length (entry_words e) ≤ place_start p + q)) (λ b. inl (omega arith)) (λ b. inr (omega (arith, length_entry e))))
         ∙ place_word s p q lp lq
         ∙ sym (place_word t p q lp lq ∙ ap (λ (y : Entry). get_or (entry_words y) q 0) (get_or-set_other s.entries i p e no_entry there)))
 
--- `Same` says that one number is 0 just where the other is.
-abbrev Same : ℕ → ℕ → Type 0
-Same m n = (m ≡ 0 → n ≡ 0) × (n ≡ 0 → m ≡ 0)
+-- NO WORD of some is other than 0 exactly where their sum is 0.
+total : List ℕ → ℕ
+total [] = 0
+total (w ∷ ws) = w + total ws
 
-same_zero : (m n : ℕ) → Same m n → eqb m 0 ≡ eqb n 0
-same_zero m n s = by_eq m 0 (eqb m 0 ≡ eqb n 0) (λ z. rw (z, s.0 z)) (λ d. rw (ne_eqb m 0 d, ne_eqb n 0 (λ z. d (s.1 z))))
+two_blank : (m n : ℕ) → eqb m 0 && eqb n 0 ≡ eqb (m + n) 0
+two_blank m n = by_eq m 0 (eqb m 0 && eqb n 0 ≡ eqb (m + n) 0)
+    (λ z. let e : 0 + n ≡ n = omega arith in rw (z, e))
+    (λ d. rw (ne_eqb m 0 d, ne_eqb (m + n) 0 (λ z. d (omega arith))))
 
--- NO BIT IN TWO WORDS is no bit in either: their sum is 0.
-or_sum : (x y b : ℕ) → Same x y → Same (bit_or x b) (y + b)
-or_sum x y b s = (
-  λ z.
-      let p : x ≡ 0 = omega (arith, or_add_and x b, and_le_r x b) in
-      let q : b ≡ 0 = omega (arith, or_add_and x b, and_le_l x b) in
-      omega (arith, s.0 p),
-  λ z. let p : x ≡ 0 = s.1 (omega arith) in omega (arith, or_add_and x b),
-)
+all_blank : (ws : List ℕ) → list_all (λ w. eqb w 0) ws ≡ eqb (total ws) 0
+unfolding total
+all_blank [] = refl
+all_blank (w ∷ ws) = rw (all_blank ws) (two_blank w (total ws))
 
 -- A SPARE PLACE that is encoded has a job and a last release whose words are 0.
 rests_blank : (kind a l kind' a' : ℕ) → kind_encoded kind a l && kind_encoded kind' a' 0 ≡ true → rests_never (job_from kind a l) (last_from kind' a') ≡ true
@@ -279,38 +304,56 @@ nine_blank label work period reserved kind a l kind' a' = by_eq sum 0 (test ≡ 
         let z = (and-eq-true_iff (eqb label 0) (eqb work 0)).0 y.0 in
         absurd (n (omega (arith, rests_blank kind a l kind' a' p.0 q.1, eqb-true label 0 z.0, eqb-true work 0 z.1, eqb-true period 0 y.1, eqb-true reserved 0 x.1)))
 
-pub spare_blank : (words : List ℕ) (k : ℕ) → place_encoded words k && spare_fits (entry_from words k) ≡ eqb (any_word words k) 0
-spare_blank words k =
+pub spare_blank : (words : List ℕ) (i : ℕ) → length words ≡ state_size → i < places
+    → place_encoded words (place_start i) && spare_fits (entry_from words (place_start i)) ≡ list_all (λ w. eqb w 0) (place_of words i)
+unfolding list_from total
+spare_blank words i long l =
+    let w : (q : ℕ) → ℕ = λ q. word_in words (place_start i + q) in
     nine_blank (w label_at) (w work_at) (w period_at) (w reserved_at) (w job_at) (w release_at) (w left_at) (w last_at) (w tick_at)
-    ∙ sym (same_zero (any_word words k) _ (or_sum _ _ (w tick_at) (or_sum _ _ (w last_at) (or_sum _ _ (w left_at) (or_sum _ _ (w release_at) (or_sum _ _ (w job_at)
-    (or_sum _ _ (w reserved_at) (or_sum _ _ (w period_at) (or_sum (w label_at) (w label_at) (w work_at) (λ z. z, λ z. z))))))))))
-  where
-    w : ℕ → ℕ
-    w q = word_in words (k + q)
+    ∙ rw (place_list words i long l) (sym (all_blank (list_from w place_size) ∙ ap (λ (n : ℕ). eqb n 0) (omega arith)))
 
--- A state that was read has its 16 places.
-pub read_whole : (words : List ℕ) → length (state_in words).entries ≡ places
-read_whole words = length_list (λ i. entry_from words (place_start i)) places
+-- Words that are put bit by bit in one are 0 there where each of them is.
+or_blank : (a w : ℕ) → eqb (bit_or a w) 0 ≡ eqb a 0 && eqb w 0
+or_blank a w = by_eq (bit_or a w) 0 (eqb (bit_or a w) 0 ≡ eqb a 0 && eqb w 0)
+    (λ z.
+    let p : a ≡ 0 = omega (arith, or_add_and a w, and_le_r a w) in
+    let q : w ≡ 0 = omega (arith, or_add_and a w, and_le_l a w) in
+    rw (z, p, q))
+    (λ d. rw (ne_eqb (bit_or a w) 0 d) (by_eq a 0 (false ≡ eqb a 0 && eqb w 0)
+    (λ p. let n : w ≡ 0 → ⊥ = λ q. d (omega (arith, or_add_and a w)) in rw (p, ne_eqb w 0 n))
+    (λ n. rw (ne_eqb a 0 n))))
+
+pub and_true : (b : Bool) → b && true ≡ b
+and_true true = refl
+and_true false = refl
+
+pub or_more : (ws : List ℕ) (a w : ℕ) → eqb a 0 ≡ list_all (λ w. eqb w 0) ws → eqb (bit_or a w) 0 ≡ list_all (λ w. eqb w 0) (ws ++ w ∷ [])
+or_more ws a w e = rw (or_blank a w, e, list_all-append) (ap (λ (b : Bool). list_all (λ w. eqb w 0) ws && b) (sym (and_true (eqb w 0))))
+
+-- The spare places from place i on are blank where place i is, and those from the next place on are.
+pub spares_cut : (words : List ℕ) (i : ℕ) → list_all (λ w. eqb w 0) (drop (place_start i) words) ≡ list_all (λ w. eqb w 0) (place_of words i) && list_all (λ w. eqb w 0) (drop (place_start (suc i)) words)
+spares_cut words i =
+    let rest = drop (place_start i) words in
+    let next : drop place_size rest ≡ drop (place_start (suc i)) words = drop-drop place_size (place_start i) words ∙ ap (λ (k : ℕ). drop k words) (omega arith) in
+    sym (ap (list_all (λ w. eqb w 0)) (take-append-drop place_size rest)) ∙ list_all-append (λ w. eqb w 0) (place_of words i) (drop place_size rest) ∙ rw next
 
 -- ON WORDS THAT ENCODE A STATE, a tick, a run of the task at place i and a release put the words of the state after it.
 pub tick_put : (words : List ℕ) → encoded words ≡ true → set words clock_at (word_in words clock_at + 1) ≡ state_words (aged (state_in words))
 tick_put words e = ap (λ (x : List ℕ). set x clock_at (word_in words clock_at + 1)) (sym (written_back words e))
 
 pub run_put : (words : List ℕ) (i : ℕ) → encoded words ≡ true → i < places
-    → let w = set words clock_at (word_in words clock_at + 1) in puts w (place_start i) 0 (entry_words (worked_of (entry_from w (place_start i)))) ≡ state_words (after_run (state_in words) i)
+    → let w = set words clock_at (word_in words clock_at + 1) in puts w (place_start i) (entry_words (worked_of (get_or (entries_in w) i no_entry))) ≡ state_words (after_run (state_in words) i)
 run_put words i e l =
     let s = aged (state_in words) in
-    ap (λ (w : List ℕ). puts w (place_start i) 0 (entry_words (worked_of (entry_from w (place_start i))))) (tick_put words e)
-    ∙ ap (λ (x : Entry). puts (state_words s) (place_start i) 0 (entry_words (worked_of x))) (entry_back s i l).0
+    ap (λ (w : List ℕ). puts w (place_start i) (entry_words (worked_of (get_or (entries_in w) i no_entry)))) (tick_put words e)
+    ∙ ap (λ (x : Entry). puts (state_words s) (place_start i) (entry_words (worked_of x))) (entry_is (state_words s) i l ∙ (entry_back s i l).0)
     ∙ entry_put s i (worked_of (entry_in s i)) (read_whole words) l
 
 pub release_put : (words : List ℕ) (i demand : ℕ) → encoded words ≡ true → i < places
-    → puts words (place_start i) 0 (entry_words (record { task = record_from words (place_start i); job = Working (word_in words clock_at) demand; last = At (word_in words clock_at) }))
-    ≡ state_words (with_entry (state_in words) i (released_entry (state_in words) i demand))
+    → puts words (place_start i) (entry_words (released_entry (state_in words) i demand)) ≡ state_words (with_entry (state_in words) i (released_entry (state_in words) i demand))
 release_put words i demand e l =
     let s = state_in words in
-    ap (λ (x : Entry). puts words (place_start i) 0 (entry_words (record { task = x.task; job = Working s.clock demand; last = At s.clock }))) (sym (entry_is words i l))
-    ∙ ap (λ (w : List ℕ). puts w (place_start i) 0 (entry_words (released_entry s i demand))) (sym (written_back words e))
+    ap (λ (w : List ℕ). puts w (place_start i) (entry_words (released_entry s i demand))) (sym (written_back words e))
     ∙ entry_put s i (released_entry s i demand) (read_whole words) l
 
 -- A COUNT of a tally that is put one up gives the words of the tally after it.

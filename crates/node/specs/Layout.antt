@@ -1,16 +1,15 @@
 -- This is the layout of the buffers that a caller lends: the 32-bit words of a state, a tally and a verdict in their
 -- order, and what words are read as. include/node.h has the same for C.
-use Rattle.std.specs.Prelude.{ℕ, zero, suc, ◌+◌, ◌*◌, ◌<◌, List, [], ◌∷◌, ◌++◌, Bool, ◌&&◌, ◌||◌, eqb, length, get_or}
-use Rattle.std.specs.Int.Bits.{bit_or}
+use Rattle.std.specs.Prelude.{ℕ, zero, suc, ◌+◌, ◌*◌, List, [], ◌∷◌, ◌++◌, Bool, ◌&&◌, ◌||◌, eqb, length, get_or, take, drop, Option, Some, None}
 use Rattle.base.specs.Every.{every}
 use Rattle.base.specs.List.{list_from}
 use Rattle.table.specs.declared.Record.{Record}
 use Rattle.table.specs.Sound.{places}
+use Rattle.admission.specs.declared.Row.{Row}
 use Rattle.admission.specs.declared.Verdict.{Verdict}
+use Rattle.admission.specs.Verdicts.{no_row}
 use Rattle.decisions.specs.declared.Job.{Job}
 use Rattle.decisions.specs.declared.Job.TheVariants.{Resting, Working}
-use Rattle.decisions.specs.declared.Last.{Last}
-use Rattle.decisions.specs.declared.Last.TheVariants.{Never, At}
 use Rattle.decisions.specs.declared.Entry.{Entry}
 use Rattle.scheduler.specs.declared.State.{State}
 use Rattle.decisions.specs.declared.Tally.{Tally}
@@ -64,18 +63,6 @@ last_at = 7
 abbrev pub tick_at : ℕ
 tick_at = 8
 
--- There is room for a place where its words from k on are all there.
-pub record Room (words : List ℕ) (k : ℕ) : Type 0 where
-  pub label : k + label_at < length words
-  pub work : k + work_at < length words
-  pub period : k + period_at < length words
-  pub reserved : k + reserved_at < length words
-  pub job : k + job_at < length words
-  pub release : k + release_at < length words
-  pub left : k + left_at < length words
-  pub last : k + last_at < length words
-  pub tick : k + tick_at < length words
-
 -- The number n, the clock and the waking length stand after the sleep record.
 abbrev pub n_at : ℕ
 n_at = 4
@@ -109,9 +96,9 @@ job_words Resting = 0 ∷ 0 ∷ 0 ∷ []
 job_words (Working a l) = 1 ∷ a ∷ l ∷ []
 
 -- A last release is written as 0 never or 1 at a tick, then that tick.
-abbrev pub last_words : Last → List ℕ
-last_words Never = 0 ∷ 0 ∷ []
-last_words (At a) = 1 ∷ a ∷ []
+abbrev pub last_words : Option ℕ → List ℕ
+last_words None = 0 ∷ 0 ∷ []
+last_words (Some a) = 1 ∷ a ∷ []
 
 -- A place is written as its record, its job and its last release.
 abbrev pub entry_words : Entry → List ℕ
@@ -135,11 +122,15 @@ abbrev pub tally_words : Tally → List ℕ
 tally_words t = t.run ∷ t.slot ∷ t.tail ∷ t.waking ∷ []
 
 -- A VERDICT is written as its windows, figures and rounds by place.
-abbrev pub by_place : List ℕ → List ℕ
-by_place numbers = list_from (λ i. get_or numbers i 0) places
+abbrev pub by_place : (Row → ℕ) → Verdict → List ℕ
+by_place part v = list_from (λ i. part (get_or v.rows i no_row)) places
 
 abbrev pub verdict_words : Verdict → List ℕ
-verdict_words v = by_place v.windows ++ by_place v.figures ++ by_place v.rounds
+verdict_words v = by_place (λ r. r.window) v ++ by_place (λ r. r.figure) v ++ by_place (λ r. r.rounds) v
+
+-- `place_of` is the words of place i.
+abbrev pub place_of : List ℕ → ℕ → List ℕ
+place_of words i = take place_size (drop (place_start i) words)
 
 -- These ARE READ from words: word k; a record, a job, a last release and an entry whose first word has number k.
 abbrev pub word_in : List ℕ → ℕ → ℕ
@@ -153,9 +144,9 @@ abbrev pub job_from : ℕ → ℕ → ℕ → Job
 job_from zero a l = Resting
 job_from (suc kind) a l = Working a l
 
-abbrev pub last_from : ℕ → ℕ → Last
-last_from zero a = Never
-last_from (suc kind) a = At a
+abbrev pub last_from : ℕ → ℕ → Option ℕ
+last_from zero a = None
+last_from (suc kind) a = Some a
 
 abbrev pub entry_from : List ℕ → ℕ → Entry
 entry_from words k = record {
@@ -185,25 +176,6 @@ abbrev pub place_encoded : List ℕ → ℕ → Bool
 place_encoded words k =
     kind_encoded (word_in words (k + job_at)) (word_in words (k + release_at)) (word_in words (k + left_at))
     && kind_encoded (word_in words (k + last_at)) (word_in words (k + tick_at)) 0
-
--- `any_word` is the words of a place from k on, bit by bit in one: it is 0 where all of them are.
-abbrev pub any_word : List ℕ → ℕ → ℕ
-any_word words k =
-    bit_or
-    (bit_or
-    (bit_or
-    (bit_or
-    (bit_or
-    (bit_or
-    (bit_or
-    (bit_or (word_in words (k + label_at)) (word_in words (k + work_at)))
-    (word_in words (k + period_at)))
-    (word_in words (k + reserved_at)))
-    (word_in words (k + job_at)))
-    (word_in words (k + release_at)))
-    (word_in words (k + left_at)))
-    (word_in words (k + last_at)))
-    (word_in words (k + tick_at))
 
 -- THE WORDS ENCODE A STATE where there are as many as it has, and every place is encoded.
 unfoldable pub encoded : List ℕ → Bool

@@ -1,7 +1,6 @@
 -- Words are written here one after the other into a buffer.
-use Rattle.std.specs.Prelude.{ℕ, suc, ◌+◌, List, [], ◌∷◌, set}
+use Rattle.std.specs.Prelude.{ℕ, ◌+◌, List, ◌++◌, length, take, drop}
 
--- `puts` sets words from number k + b on.
-abbrev pub puts : List ℕ → ℕ → ℕ → List ℕ → List ℕ
-puts words k b [] = words
-puts words k b (w ∷ ws) = puts (set words (k + b) w) k (suc b) ws
+-- `puts` sets the words from number k on.
+abbrev pub puts : List ℕ → ℕ → List ℕ → List ℕ
+puts words k ws = take k words ++ (ws ++ drop (k + length ws) words)

@@ -4,26 +4,26 @@
 // gives, and include/node.h says both for C.
 #![tactic(auto)]
 
-ghost use Rattle.std.specs.Prelude.{◌≡◌, true, [], ◌∷◌, ◌+◌, ◌-◌, ◌≤◌, ◌<◌, length, get_or, set};
-ghost use Rattle.base.specs.First.{first_from};
+ghost use Rattle.std.specs.Prelude.{◌≡◌, true, ◌≤◌, ◌<◌, eqb, length};
+ghost use Rattle.std.specs.List.{list_all};
 ghost use Rattle.table.specs.Refusals.{told_of};
 ghost use Rattle.table.specs.Sound.{places};
-ghost use Rattle.decisions.specs.Fits.{clock_end, no_entry, total};
-ghost use Rattle.scheduler.specs.States.{head_of};
+ghost use Rattle.decisions.specs.Fits.{clock_end, total};
+ghost use Rattle.scheduler.specs.States.{head_of, entry_in};
 ghost use Rattle.scheduler.specs.Releases.{released_state};
-ghost use Rattle.decisions.specs.Ticks.{came, worked_of};
+ghost use Rattle.decisions.specs.Ticks.{worked_of};
 ghost use Rattle.scheduler.specs.Steps.{tick_of, after_tick, raised};
 ghost use Rattle.node.specs.Words.{puts};
-ghost use Rattle.node.specs.Layout.{Room, label_at, job_at, release_at, left_at, last_at, tick_at, state_size, tally_size, verdict_size, record_words, job_words, last_words, entry_words, state_words, tally_words, by_place, verdict_words, word_in, record_from, job_from, last_from, entry_from, entries_in, state_in, tally_in, any_word, kind_encoded, place_encoded, encoded};
-ghost use Rattle.node.specs.Calls.{packed, told_answer, unfit_answer, after_unfit, tick_answer, admit_on, start_on, release_on, step_on, energy_on, Headed, words_fit, place_fits_in, places_fit_in, spares_blank};
+ghost use Rattle.node.specs.Layout.{state_size, place_start, head_words, state_words, entry_words, tally_words, verdict_words, state_in, tally_in, place_of, entry_from, kind_encoded, place_encoded, encoded};
+ghost use Rattle.node.specs.Calls.{packed, told_answer, unfit_answer, after_unfit, tick_answer, admit_on, start_on, release_on, step_on, energy_on, words_fit, places_fit_in, spares_blank};
 
 use admission::{Verdict, admit};
 use decisions::{
-    Answer, Count, Entry, Head, Job, Last, Tally, Tick, came_by, count_of, energy, head_fits,
-    in_slot, last_boundary, may_release, may_step, place_fits, run_or_tail, worked,
+    Count, Entry, Head, Job, Places, Powers, Tally, Tick, count_of, energy, head_fits, may_release,
+    may_step, next_tick, place_fits, worked,
 };
 use scheduler::{State, start};
-use table::{MOST_TASKS, PLACES, Record, Refusal, no_window, tell};
+use table::{MOST_TASKS, PLACES, Record, Refusal, Told, no_window};
 
 // These say how many words a state, a tally and a verdict have.
 pub const STATE_WORDS: usize = 151;
@@ -37,32 +37,8 @@ const HEAD_WORDS: usize = 7;
 
 const PLACE_WORDS: usize = 9;
 
-// These say where the words of a record stand from its first on, and those of a place after its
-// record's.
-const LABEL_AT: usize = 0;
-
-const WORK_AT: usize = 1;
-
-const PERIOD_AT: usize = 2;
-
-const RESERVED_AT: usize = 3;
-
-const JOB_AT: usize = 4;
-
-const RELEASE_AT: usize = 5;
-
-const LEFT_AT: usize = 6;
-
-const LAST_AT: usize = 7;
-
-const TICK_AT: usize = 8;
-
-// These say where n, the clock and the waking length stand in a state, and the counts in a tally.
-const N_AT: usize = 4;
-
+// These say where the clock stands in a state, and the counts in a tally.
 const CLOCK_AT: usize = 5;
-
-const WAKING_AT: usize = 6;
 
 const RUN_AT: usize = 0;
 
@@ -79,23 +55,20 @@ pub fn node_admit(table: &[u8], verdict: &mut [u32]) -> u64
         × (verdict.new ≡ (admit_on table.now verdict.old).verdict) }
 {
     let v = admit(table);
-    let answer = v.answer;
-    match answer {
-        admission::Answer::Admitted { tasks } => {
-            if verdict.len() != VERDICT_WORDS {
+    match v.answer {
+        Ok(tasks) => {
+            let Some(out) = verdict.as_mut_array::<VERDICT_WORDS>() else {
                 return unfit();
-            }
-            put_verdict(verdict, v);
+            };
+            put_verdict(out, &v);
             answer_of(0, tasks, 0)
         }
-        admission::Answer::Refused(refusal) => {
-            if !no_window(refusal) {
-                return refused(refusal);
+        Err(refusal) => {
+            if no_window(refusal)
+                && let Some(out) = verdict.as_mut_array::<VERDICT_WORDS>()
+            {
+                put_verdict(out, &v);
             }
-            if verdict.len() != VERDICT_WORDS {
-                return refused(refusal);
-            }
-            put_verdict(verdict, v);
             refused(refusal)
         }
     }
@@ -107,21 +80,17 @@ pub fn node_start(table: &[u8], waking: u32, state: &mut [u32]) -> u64
         × (state.new ≡ (start_on (record { table = table.now; waking = waking }) state.old).state) }
 {
     let started = start(table, waking);
-    let answer = started.answer;
-    match answer {
-        Answer::Accepted => {
-            if state.len() != STATE_WORDS {
+    match started.answer {
+        Ok(()) => {
+            let Some(out) = state.as_mut_array::<STATE_WORDS>() else {
                 return unfit();
-            }
-            put_state(state, started.state);
+            };
+            put_state(out, &started.state);
             0
         }
-        Answer::Refused(refusal) => {
-            if state.len() == STATE_WORDS {
-                return refused(refusal);
-            }
-            // Another length gets 6, which is given before a higher number.
-            if after_unfit(refusal) {
+        // A buffer of another length gets 6, which is given before a higher number.
+        Err(refusal) => {
+            if state.len() != STATE_WORDS && after_unfit(refusal) {
                 return unfit();
             }
             refused(refusal)
@@ -135,19 +104,19 @@ pub fn node_release(state: &mut [u32], task: u32, demand: u32) -> u64
     ensures { (result ≡ (release_on state.old task demand).answer)
         × (state.new ≡ (release_on state.old task demand).state) }
 {
-    if state.len() != STATE_WORDS {
+    let Some(state) = state.as_mut_array::<STATE_WORDS>() else {
+        return unfit();
+    };
+    let words = Words { words: state };
+    if !words.fit() {
         return unfit();
     }
-    let head = head_in(state);
-    if !fits_in(state, head) {
-        return unfit();
-    }
-    let e = task_in(state, task);
-    let answer = may_release(head, e, task, demand);
-    match answer {
-        Answer::Refused(refusal) => refused(refusal),
-        Answer::Accepted => {
-            take(state, head, task, demand);
+    // Number 0 reads the first place, and one of no place a spare one.
+    let e = words.entry(task.saturating_sub(1));
+    match may_release(words.head(), e, task, demand) {
+        Err(refusal) => refused(refusal),
+        Ok(()) => {
+            take(state, task, demand);
             0
         }
     }
@@ -161,19 +130,19 @@ pub fn node_step(state: &mut [u32], tally: &mut [u32]) -> u64
         × (state.new ≡ (step_on state.old tally.old).state)
         × (tally.new ≡ (step_on state.old tally.old).tally) }
 {
-    if tally.len() != TALLY_WORDS {
+    let Some(tally) = tally.as_mut_array::<TALLY_WORDS>() else {
         return unfit();
-    }
-    if state.len() != STATE_WORDS {
+    };
+    let Some(state) = state.as_mut_array::<STATE_WORDS>() else {
         return unfit();
-    }
-    let head = head_in(state);
-    let answer = may_step(fits_in(state, head), tally_in(tally), head.clock);
-    match answer {
-        Answer::Refused(refusal) => refused(refusal),
-        Answer::Accepted => {
-            let tick = tick_in(state, head);
-            move_on(state, head, tick);
+    };
+    let words = Words { words: state };
+    let head = words.head();
+    match may_step(words.fit(), tally_in(tally), head.clock) {
+        Err(refusal) => refused(refusal),
+        Ok(()) => {
+            let tick = words.tick();
+            move_on(state, tick);
             raise(tally, count_of(head, tick));
             tick_answer(tick)
         }
@@ -181,19 +150,17 @@ pub fn node_step(state: &mut [u32], tally: &mut [u32]) -> u64
 }
 
 // `node_energy` gives the energy of a tally.
-#[tactic(auto, using(crate::proofs::EnergyLaws::energy_small), unfolding(crate::specs::Calls::energy_on))]
+#[tactic(auto, unfolding(crate::specs::Calls::energy_on))]
 pub fn node_energy(tally: &[u32], run: u32, sleep: u32, waking: u32) -> u64
     ensures { result ≡ energy_on tally.now run sleep waking }
 {
-    if tally.len() != TALLY_WORDS {
+    let Some(tally) = tally.as_array::<TALLY_WORDS>() else {
         return unfit();
-    }
-    let counted = tally_in(tally);
-    let reading = energy(counted, run, sleep, waking);
-    let answer = reading.answer;
-    match answer {
-        Answer::Accepted => 256 * reading.nanojoules,
-        Answer::Refused(refusal) => refused(refusal),
+    };
+    let powers = Powers { run, sleep, waking };
+    match energy(tally_in(tally), powers) {
+        Ok(nanojoules) => 256 * nanojoules,
+        Err(refusal) => refused(refusal),
     }
 }
 
@@ -208,16 +175,14 @@ fn unfit() -> u64
 fn after_unfit(refusal: Refusal) -> bool
     ensures { result ≡ after_unfit refusal }
 {
-    let told = tell(refusal);
-    let six = tell(Refusal::Unfit);
-    six.number < told.number
+    Told::from(Refusal::Unfit).number < Told::from(refusal).number
 }
 
 // `refused` is a refusal's answer.
 fn refused(refusal: Refusal) -> u64
     ensures { result ≡ told_answer (told_of refusal) }
 {
-    let told = tell(refusal);
+    let told = Told::from(refusal);
     answer_of(told.number, told.place, told.rounds)
 }
 
@@ -232,454 +197,315 @@ fn tick_answer(tick: Tick) -> u64
     }
 }
 
-// An answer has the number in its low byte, and two parts above it.
+// An answer has the number in its low byte, and two parts above it: include/node.h has refusals and
+// kinds of a tick as numbers.
 fn answer_of(number: u32, a: u32, b: u32) -> u64
     ensures { result ≡ packed number a b }
 {
-    number as u64 + 256 * a as u64 + 65536 * b as u64
+    u64::from(number) + 256 * u64::from(a) + 65536 * u64::from(b)
 }
 
-// `head_in` reads what stands before the places of a state.
-fn head_in(state: &[u32]) -> Head
-    requires { length state.now ≡ state_size }
-    ensures { result ≡ head_of (state_in state.now) }
-{
-    let sleep = record_in(state, 0);
-    Head {
-        sleep: sleep,
-        n: state[N_AT],
-        clock: state[CLOCK_AT],
-        waking: state[WAKING_AT],
-    }
+// `Words` are the words of a state, as many as it has, and are read where they stand. Nothing
+// compares or prints them.
+#[derive(Clone, Copy)]
+struct Words<'a> {
+    words: &'a [u32; STATE_WORDS],
+    ghost long: { length words.now ≡ state_size },
 }
 
-// `fits_in` tells whether the words, whose head is handed in, encode a state that keeps its rules.
-fn fits_in(state: &[u32], head: Head) -> bool
-    requires { Headed state.now head }
-    ensures { result ≡ words_fit state.now }
-{
-    let first = record_in(state, HEAD_WORDS);
-    if !head_fits(head, first) {
-        return false;
-    }
-    if !tasks_fit_in(state, head) {
-        return false;
-    }
-    spares_blank(state, head.n)
-}
+impl Places for Words<'_> {
+    ghost entry = { λ state i. entry_in (state_in state.words.now) i };
 
-// `tasks_fit_in` tells whether every task's place is encoded and keeps its rules.
-#[tactic(auto, unfolding(scheduler::specs::States::period_before, base::specs::Every::every))]
-fn tasks_fit_in(state: &[u32], head: Head) -> bool
-    requires { (length state.now ≡ state_size) × (head.n ≤ places) }
-    ensures { result ≡ places_fit_in state.now head head.n }
-{
-    let n = head.n;
-    let mut above: u32 = 0;
-    let mut i: u32 = 0;
-    while i < n {
-        if !place_fits_in(state, head, i, above) {
-            return false;
+    #[tactic(auto, using(crate::proofs::LayoutLaws::entry_at, crate::proofs::LayoutLaws::no_place))]
+    fn entry(&self, i: u32) -> Entry {
+        if i < MOST_TASKS {
+            entry_of(self.place(i))
+        } else {
+            Entry::default()
         }
-        above = state[HEAD_WORDS + PLACE_WORDS * i as usize + PERIOD_AT];
-        i += 1;
     }
-    true
 }
 
-// `place_fits_in` tells whether place i, after one of period `above`, is encoded and keeps its
-// rules.
-#[tactic(auto, using(crate::proofs::LayoutLaws::entry_is))]
-fn place_fits_in(state: &[u32], head: Head, i: u32, above: u32) -> bool
-    requires { (length state.now ≡ state_size) × (i < places) }
-    ensures { result ≡ place_fits_in state.now head i above }
-{
-    let at = HEAD_WORDS + PLACE_WORDS * i as usize;
-    if !place_encoded(state, at) {
-        return false;
-    }
-    place_fits(head, i, above, entry_in(state, at))
-}
-
-// `spares_blank` tells whether every word of the places after the n tasks' is 0: these are spare
-// places, encoded.
-#[tactic(auto, unfolding(base::specs::Every::every))]
-fn spares_blank(state: &[u32], n: u32) -> bool
-    requires { (length state.now ≡ state_size) × (n ≤ places) }
-    ensures { result ≡ spares_blank state.now n }
-{
-    let mut i: u32 = n;
-    while i < MOST_TASKS {
-        if any_word(state, HEAD_WORDS + PLACE_WORDS * i as usize) != 0 {
-            return false;
+impl<'a> Words<'a> {
+    // The head is what stands before the places.
+    fn head(&self) -> Head
+        ensures { result ≡ head_of (state_in self.now.words.now) }
+    {
+        let [label, work, period, reserved, n, clock, waking, ..] = *self.words;
+        Head {
+            sleep: Record {
+                label,
+                work,
+                period,
+                reserved,
+            },
+            n,
+            clock,
+            waking,
         }
-        i += 1;
     }
-    true
-}
 
-// `any_word` gives the words of the place at word `at` in one: 0 where all of them are.
-fn any_word(state: &[u32], at: usize) -> u32
-    requires { Room state.now at }
-    ensures { result ≡ any_word state.now at }
-{
-    state[at + LABEL_AT]
-        | state[at + WORK_AT]
-        | state[at + PERIOD_AT]
-        | state[at + RESERVED_AT]
-        | state[at + JOB_AT]
-        | state[at + RELEASE_AT]
-        | state[at + LEFT_AT]
-        | state[at + LAST_AT]
-        | state[at + TICK_AT]
-}
-
-// `place_encoded` tells whether the words of a place encode an entry: its kinds are 0 or 1, and
-// there are zeros where a kind has no more.
-fn place_encoded(state: &[u32], at: usize) -> bool
-    requires { Room state.now at }
-    ensures { result ≡ place_encoded state.now at }
-{
-    if !job_encoded(state, at) {
-        return false;
+    // Who reads or writes one place asks that there is one (`i < places`). A type for such a number
+    // would be made at four places, each by the fact that is asked now.
+    fn place(&self, i: u32) -> &'a [u32; PLACE_WORDS]
+        requires { i < places }
+        ensures { result.now ≡ place_of self.now.words.now i }
+    {
+        let at = HEAD_WORDS + PLACE_WORDS * i as usize;
+        let words = self.words;
+        let Some(place) = words[at..].first_chunk() else {
+            unreachable!()
+        };
+        place
     }
-    last_encoded(state, at)
+
+    // The words fit where they encode a state that keeps its rules.
+    #[tactic(auto, using(crate::proofs::CallLaws::fits_parts, crate::proofs::CallLaws::few_tasks))]
+    fn fit(&self) -> bool
+        ensures { result ≡ words_fit self.now.words.now }
+    {
+        let head = self.head();
+        head_fits(head, self.entry(0).task) && self.tasks_fit(head) && self.spares_blank(head.n)
+    }
+
+    // The tasks' places fit where every one of them is encoded and keeps its rules.
+    #[tactic(auto, unfolding(scheduler::specs::States::period_before, base::specs::Every::every))]
+    fn tasks_fit(&self, head: Head) -> bool
+        requires { head.n ≤ places }
+        ensures { result ≡ places_fit_in self.now.words.now head head.n }
+    {
+        let mut above = 0;
+        for i in 0..head.n {
+            let place = self.place(i);
+            if !encoded(place) {
+                return false;
+            }
+            let e = entry_of(place);
+            if !place_fits(head, i, above, e) {
+                return false;
+            }
+            above = e.task.period;
+        }
+        true
+    }
+
+    // The spare places are blank, and so encoded, where every word from the first of them on is 0.
+    fn spares_blank(&self, n: u32) -> bool
+        requires { n ≤ places }
+        ensures { result ≡ spares_blank self.now.words.now n }
+    {
+        for i in n..MOST_TASKS {
+            if !blank(self.place(i)) {
+                return false;
+            }
+        }
+        true
+    }
+
+    // The next tick of a state that keeps its rules.
+    fn tick(&self) -> Tick
+        requires { words_fit self.now.words.now ≡ true }
+        ensures { result ≡ tick_of (state_in self.now.words.now) }
+    {
+        next_tick(self.head(), self)
+    }
 }
 
-fn job_encoded(state: &[u32], at: usize) -> bool
-    requires { Room state.now at }
-    ensures { result ≡ kind_encoded (word_in state.now (at + job_at)) (word_in state.now (at + release_at)) (word_in state.now (at + left_at)) }
+// A place encodes an entry where its kinds are 0 or 1, and there are zeros where a kind has no more.
+fn encoded(place: &[u32; PLACE_WORDS]) -> bool
+    ensures { result ≡ place_encoded place.now 0 }
 {
-    kind_encoded(
-        state[at + JOB_AT],
-        state[at + RELEASE_AT],
-        state[at + LEFT_AT],
-    )
+    let [_, _, _, _, job, release, left, last, tick] = *place;
+    kind_encoded(job, release, left) && kind_encoded(last, tick, 0)
 }
 
-fn last_encoded(state: &[u32], at: usize) -> bool
-    requires { Room state.now at }
-    ensures { result ≡ kind_encoded (word_in state.now (at + last_at)) (word_in state.now (at + tick_at)) 0 }
+// `entry_of` reads the entry of a place.
+fn entry_of(place: &[u32; PLACE_WORDS]) -> Entry
+    ensures { result ≡ entry_from place.now 0 }
 {
-    kind_encoded(state[at + LAST_AT], state[at + TICK_AT], 0)
+    let [
+        label,
+        work,
+        period,
+        reserved,
+        job,
+        release,
+        left,
+        last,
+        tick,
+    ] = *place;
+    Entry {
+        task: Record {
+            label,
+            work,
+            period,
+            reserved,
+        },
+        job: if job == 0 {
+            Job::Resting
+        } else {
+            Job::Working { release, left }
+        },
+        last: if last == 0 { None } else { Some(tick) },
+    }
 }
 
-// `kind_encoded` tells whether a kind and what it carries are written as they should be.
+// A place is blank where each of its words is 0. Bit by bit in one: with `all`, which stops at a word,
+// a step misses its aim in docs/PERFORMANCE.md.
+fn blank(place: &[u32; PLACE_WORDS]) -> bool
+    ensures { result ≡ list_all (λ w. eqb w 0) place.now }
+{
+    place.iter().fold(0, |any, word| any | word) == 0
+}
+
+// `kind_encoded` tells whether a kind and what it carries are written as they should be: include/node.h
+// has kinds as numbers.
 fn kind_encoded(kind: u32, a: u32, b: u32) -> bool
     ensures { result ≡ kind_encoded kind a b }
 {
-    if kind == 1 {
-        return true;
-    }
-    kind as u64 + a as u64 + b as u64 == 0
+    // The three words are 0 where their sum is; a branch for each is slower.
+    kind == 1 || u64::from(kind) + u64::from(a) + u64::from(b) == 0
 }
 
-// `task_in` reads the entry of a task by its number: number 0 reads the first place, and one of no
-// place a spare one.
-#[tactic(auto, using(crate::proofs::LayoutLaws::entry_is))]
-fn task_in(state: &[u32], task: u32) -> Entry
-    requires { length state.now ≡ state_size }
-    ensures { result ≡ get_or (entries_in state.now) (task - 1) no_entry }
-{
-    if task < 1 {
-        return entry_in(state, HEAD_WORDS);
-    }
-    if MOST_TASKS < task {
-        return Entry {
-            task: Record {
-                label: 0,
-                work: 0,
-                period: 0,
-                reserved: 0,
-            },
-            job: Job::Resting,
-            last: Last::Never,
-        };
-    }
-    entry_in(state, HEAD_WORDS + PLACE_WORDS * (task - 1) as usize)
-}
-
-// `entry_in` reads the entry whose first word is word `at`.
-fn entry_in(state: &[u32], at: usize) -> Entry
-    requires { Room state.now at }
-    ensures { result ≡ entry_from state.now at }
-{
-    let task = record_in(state, at);
-    let job = job_in(state, at);
-    let last = last_in(state, at);
-    Entry {
-        task: task,
-        job: job,
-        last: last,
-    }
-}
-
-fn job_in(state: &[u32], at: usize) -> Job
-    requires { Room state.now at }
-    ensures { result ≡ (entry_from state.now at).job }
-{
-    job_of(
-        state[at + JOB_AT],
-        state[at + RELEASE_AT],
-        state[at + LEFT_AT],
-    )
-}
-
-fn last_in(state: &[u32], at: usize) -> Last
-    requires { Room state.now at }
-    ensures { result ≡ (entry_from state.now at).last }
-{
-    last_of(state[at + LAST_AT], state[at + TICK_AT])
-}
-
-// `record_in` reads the record whose first word is word `at`.
-fn record_in(state: &[u32], at: usize) -> Record
-    requires { Room state.now at }
-    ensures { result ≡ record_from state.now at }
-{
-    Record {
-        label: state[at + LABEL_AT],
-        work: state[at + WORK_AT],
-        period: state[at + PERIOD_AT],
-        reserved: state[at + RESERVED_AT],
-    }
-}
-
-fn job_of(kind: u32, release: u32, left: u32) -> Job
-    ensures { result ≡ job_from kind release left }
-{
-    if kind == 0 {
-        Job::Resting
-    } else {
-        Job::Working {
-            release: release,
-            left: left,
-        }
-    }
-}
-
-fn last_of(kind: u32, tick: u32) -> Last
-    ensures { result ≡ last_from kind tick }
-{
-    if kind == 0 {
-        Last::Never
-    } else {
-        Last::At(tick)
-    }
-}
-
-fn tally_in(tally: &[u32]) -> Tally
-    requires { length tally.now ≡ tally_size }
+// No `From`: neither its type nor the words are this crate's.
+fn tally_in(tally: &[u32; TALLY_WORDS]) -> Tally
     ensures { result ≡ tally_in tally.now }
 {
+    let [run, slot, tail, waking] = *tally;
     Tally {
-        run: tally[RUN_AT],
-        slot: tally[SLOT_AT],
-        tail: tally[TAIL_AT],
-        waking: tally[WAKINGS_AT],
+        run,
+        slot,
+        tail,
+        waking,
     }
-}
-
-// `tick_in` tells what the next tick of a state that keeps its rules is.
-fn tick_in(state: &[u32], head: Head) -> Tick
-    requires { Headed state.now head × (words_fit state.now ≡ true) }
-    ensures { result ≡ tick_of (state_in state.now) }
-{
-    if in_slot(head) {
-        return Tick::Slot;
-    }
-    let i = first_ready_in(state, head.n, last_boundary(head));
-    run_or_tail(head.n, i)
-}
-
-// `first_ready_in` finds the first of the n tasks whose job was released at or before the boundary,
-// or gives n.
-#[tactic(auto, using(base::proofs::FirstLaws::first_on, base::proofs::FirstLaws::first_here, base::proofs::FirstLaws::first_end, crate::proofs::LayoutLaws::entry_is))]
-fn first_ready_in(state: &[u32], n: u32, boundary: u32) -> u32
-    requires { (length state.now ≡ state_size) × (n ≤ places) }
-    ensures { result ≡ first_from (λ i. came boundary (get_or (entries_in state.now) i no_entry).job) n 0 }
-{
-    let mut i: u32 = 0;
-    while i < n {
-        let job = job_in(state, HEAD_WORDS + PLACE_WORDS * i as usize);
-        if came_by(job, boundary) {
-            return i;
-        }
-        i += 1;
-    }
-    i
 }
 
 // `take` leaves the state with a task at work on a job released now.
 #[tactic(auto, using(crate::proofs::LayoutLaws::release_put))]
-fn take(state: &mut [u32], head: Head, task: u32, demand: u32)
-    requires { Headed state.old head × (encoded state.old ≡ true) × (1 ≤ task) × (task ≤ places) }
+fn take(state: &mut [u32; STATE_WORDS], task: u32, demand: u32)
+    requires { (encoded state.old ≡ true) × (1 ≤ task) × (task ≤ places) }
     ensures { state.new ≡ state_words (released_state (state_in state.old) task demand) }
 {
-    let at = HEAD_WORDS + PLACE_WORDS * (task - 1) as usize;
-    let record = record_in(state, at);
+    let i = task - 1;
+    let clock = state[CLOCK_AT];
     let e = Entry {
-        task: record,
         job: Job::Working {
-            release: head.clock,
+            release: clock,
             left: demand,
         },
-        last: Last::At(head.clock),
+        last: Some(clock),
+        ..Words { words: state }.entry(i)
     };
-    put_entry(state, at, e);
+    put_entry(state, i, e);
 }
 
 // `move_on` leaves the state one tick on: the clock, and the work of the task that ran.
 #[tactic(auto, using(crate::proofs::LayoutLaws::tick_put))]
-fn move_on(state: &mut [u32], head: Head, tick: Tick)
-    requires { Headed state.old head × (words_fit state.old ≡ true) × (head.clock < clock_end) × (tick ≡ tick_of (state_in state.old)) }
+fn move_on(state: &mut [u32; STATE_WORDS], tick: Tick)
+    requires { (words_fit state.old ≡ true) × ((state_in state.old).clock < clock_end) × (tick ≡ tick_of (state_in state.old)) }
     ensures { state.new ≡ state_words (after_tick (state_in state.old) tick) }
 {
-    state[CLOCK_AT] = head.clock + 1;
-    match tick {
-        Tick::Run(task) => work(state, HEAD_WORDS + PLACE_WORDS * (task - 1) as usize),
-        Tick::Slot => {}
-        Tick::Tail => {}
+    state[CLOCK_AT] += 1;
+    if let Tick::Run(task) = tick {
+        work(state, task - 1);
     }
 }
 
-// `work` does one unit of work at the place at word `at`.
-fn work(state: &mut [u32], at: usize)
-    requires { Room state.old at }
-    ensures { state.new ≡ puts state.old at 0 (entry_words (worked_of (entry_from state.old at))) }
+// `work` does one unit of work at place i.
+fn work(state: &mut [u32; STATE_WORDS], i: u32)
+    requires { i < places }
+    ensures { state.new ≡ puts state.old (place_start i) (entry_words (worked_of (entry_in (state_in state.old) i))) }
 {
-    let e = entry_in(state, at);
-    let d = worked(e);
-    put_entry(state, at, d);
+    let e = worked(Words { words: state }.entry(i));
+    put_entry(state, i, e);
 }
 
-// `raise` leaves the tally with a count one up.
-fn raise(tally: &mut [u32], count: Count)
-    requires { (length tally.old ≡ tally_size) × (total (tally_in tally.old) < clock_end) }
+// `raise` leaves the tally with a count one up. By number, since the borrow checker does not cover
+// an array pattern behind a `&mut`.
+fn raise(tally: &mut [u32; TALLY_WORDS], count: Count)
+    requires { total (tally_in tally.old) < clock_end }
     ensures { tally.new ≡ tally_words (raised (tally_in tally.old) count) }
 {
-    match count {
-        Count::Runs => raise_word(tally, RUN_AT),
-        Count::Slots => raise_word(tally, SLOT_AT),
-        Count::Tails => raise_word(tally, TAIL_AT),
-        Count::Wakings => raise_word(tally, WAKINGS_AT),
-    }
-}
-
-fn raise_word(tally: &mut [u32], k: usize)
-    requires { (k < length tally.old) × (word_in tally.old k < clock_end) }
-    ensures { tally.new ≡ set tally.old k (word_in tally.old k + 1) }
-{
-    let count = tally[k];
-    tally[k] = count + 1;
+    let at = match count {
+        Count::Runs => RUN_AT,
+        Count::Slots => SLOT_AT,
+        Count::Tails => TAIL_AT,
+        Count::Wakings => WAKINGS_AT,
+    };
+    tally[at] += 1;
 }
 
 // `put_state` writes a whole state.
 #[tactic(auto, using(crate::proofs::LayoutLaws::place_more_put, crate::proofs::LayoutLaws::state_put), unfolding(crate::specs::Layout::places_words))]
-fn put_state(out: &mut [u32], s: State)
-    requires { length out.old ≡ state_size }
-    ensures { out.new ≡ state_words s }
+fn put_state(out: &mut [u32; STATE_WORDS], s: &State)
+    ensures { out.new ≡ state_words s.now }
+{
+    out[..HEAD_WORDS].copy_from_slice(&head_words(s));
+    for (i, &e) in s.entries.iter().enumerate() {
+        put_entry(out, i as u32, e);
+    }
+}
+
+// `head_words` is what stands before the places of a state. No `From` here or for an entry: neither
+// end is this crate's type.
+fn head_words(s: &State) -> [u32; HEAD_WORDS]
+    ensures { result ≡ head_words s.now }
 {
     let sleep = s.sleep;
-    put_record(out, 0, sleep);
-    out[N_AT] = s.n;
-    out[CLOCK_AT] = s.clock;
-    out[WAKING_AT] = s.waking;
-    let entries = s.entries;
-    let mut i: usize = 0;
-    while i < PLACES {
-        let e = entries[i];
-        put_entry(out, HEAD_WORDS + PLACE_WORDS * i, e);
-        i += 1;
-    }
+    [
+        sleep.label,
+        sleep.work,
+        sleep.period,
+        sleep.reserved,
+        s.n,
+        s.clock,
+        s.waking,
+    ]
+}
+
+// `put_entry` writes the words of place i.
+#[tactic(auto, using(crate::proofs::LayoutLaws::length_entry))]
+fn put_entry(out: &mut [u32; STATE_WORDS], i: u32, e: Entry)
+    requires { i < places }
+    ensures { out.new ≡ puts out.old (place_start i) (entry_words e) }
+{
+    let at = HEAD_WORDS + PLACE_WORDS * i as usize;
+    out[at..at + PLACE_WORDS].copy_from_slice(&entry_words(e));
+}
+
+// `entry_words` is an entry as the words of a place.
+fn entry_words(e: Entry) -> [u32; PLACE_WORDS]
+    ensures { result ≡ entry_words e }
+{
+    let (job, release, left) = match e.job {
+        Job::Resting => (0, 0, 0),
+        Job::Working { release, left } => (1, release, left),
+    };
+    let (last, tick) = match e.last {
+        None => (0, 0),
+        Some(tick) => (1, tick),
+    };
+    let task = e.task;
+    [
+        task.label,
+        task.work,
+        task.period,
+        task.reserved,
+        job,
+        release,
+        left,
+        last,
+        tick,
+    ]
 }
 
 // `put_verdict` writes a whole verdict.
-#[tactic(auto, using(crate::proofs::LayoutLaws::verdict_put))]
-fn put_verdict(out: &mut [u32], v: Verdict)
-    requires { length out.old ≡ verdict_size }
-    ensures { out.new ≡ verdict_words v }
+fn put_verdict(out: &mut [u32; VERDICT_WORDS], v: &Verdict)
+    ensures { out.new ≡ verdict_words v.now }
 {
-    let windows = v.windows;
-    let figures = v.figures;
-    let rounds = v.rounds;
-    put_sixteen(out, 0, windows);
-    put_sixteen(out, PLACES, figures);
-    put_sixteen(out, PLACES + PLACES, rounds);
-}
-
-// `put_sixteen` writes sixteen words from word k on.
-#[tactic(auto, using(crate::proofs::LayoutLaws::one_more_put), unfolding(base::specs::List::list_from))]
-fn put_sixteen(out: &mut [u32], k: usize, words: [u32; PLACES])
-    requires { k + places ≤ length out.old }
-    ensures { out.new ≡ puts out.old k 0 (by_place words) }
-{
-    let mut i: usize = 0;
-    while i < PLACES {
-        let w = words[i];
-        out[k + i] = w;
-        i += 1;
+    for (i, row) in v.rows.iter().enumerate() {
+        out[i] = row.window;
+        out[PLACES + i] = row.figure;
+        out[2 * PLACES + i] = row.rounds;
     }
-}
-
-// `put_entry` writes the words of a place, from word `at` on.
-fn put_entry(out: &mut [u32], at: usize, e: Entry)
-    requires { Room out.old at }
-    ensures { out.new ≡ puts out.old at 0 (entry_words e) }
-{
-    let task = e.task;
-    let job = e.job;
-    let last = e.last;
-    put_record(out, at, task);
-    put_job(out, at, job);
-    put_last(out, at, last);
-}
-
-fn put_record(out: &mut [u32], at: usize, r: Record)
-    requires { Room out.old at }
-    ensures { out.new ≡ puts out.old at label_at (record_words r) }
-{
-    out[at + LABEL_AT] = r.label;
-    out[at + WORK_AT] = r.work;
-    out[at + PERIOD_AT] = r.period;
-    out[at + RESERVED_AT] = r.reserved;
-}
-
-// `put_job` writes the job's words of the place at word `at`.
-fn put_job(out: &mut [u32], at: usize, job: Job)
-    requires { Room out.old at }
-    ensures { out.new ≡ puts out.old at job_at (job_words job) }
-{
-    match job {
-        Job::Resting => put_job_words(out, at, 0, 0, 0),
-        Job::Working { release, left } => put_job_words(out, at, 1, release, left),
-    }
-}
-
-fn put_job_words(out: &mut [u32], at: usize, kind: u32, release: u32, left: u32)
-    requires { Room out.old at }
-    ensures { out.new ≡ puts out.old at job_at (kind ∷ release ∷ left ∷ []) }
-{
-    out[at + JOB_AT] = kind;
-    out[at + RELEASE_AT] = release;
-    out[at + LEFT_AT] = left;
-}
-
-// `put_last` writes the last release's words of the place at word `at`.
-fn put_last(out: &mut [u32], at: usize, last: Last)
-    requires { Room out.old at }
-    ensures { out.new ≡ puts out.old at last_at (last_words last) }
-{
-    match last {
-        Last::Never => put_last_words(out, at, 0, 0),
-        Last::At(tick) => put_last_words(out, at, 1, tick),
-    }
-}
-
-fn put_last_words(out: &mut [u32], at: usize, kind: u32, tick: u32)
-    requires { Room out.old at }
-    ensures { out.new ≡ puts out.old at last_at (kind ∷ tick ∷ []) }
-{
-    out[at + LAST_AT] = kind;
-    out[at + TICK_AT] = tick;
 }

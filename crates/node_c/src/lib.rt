@@ -1,5 +1,6 @@
 // These are the exports of libnode.a, one for each call of include/node.h: node's functions under
-// their own names, with the clauses that node states.
+// their own names, with the clauses that node states. A crate is a library or a static library, so
+// that they stand apart, and C takes the names.
 #![tactic(auto)]
 
 ghost use Rattle.std.specs.Prelude.{◌≡◌};

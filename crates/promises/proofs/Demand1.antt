@@ -4,7 +4,6 @@ use Rattle.admission.proofs.RefusedLaws.{admission_refused_exactly}
 use Rattle.scheduler.proofs.ReleaseLaws.{release_refused}
 use Rattle.scheduler.proofs.StepLaws.{step_refused}
 use Rattle.scheduler.proofs.StartLaws.{no_state_refused}
-use Rattle.scheduler.proofs.RefusalLaws.{energy_refused}
 use Rattle.scheduler.proofs.AnswerLaws as laws
 use Rattle.node.proofs.CallLaws as on
 use Rattle.promises.specs.Settled.{Settles}
@@ -38,7 +37,7 @@ demand_1 = record {
     step_unchanged = step_refused;
     start_gives_no_state = laws.start_refused;
     no_state_gets_6 = λ task demand t. let f = no_state_refused task demand t in (f.0, f.1, refl);
-    energy_zero = λ t run sleep waking r e. (energy_refused t run sleep waking r e).0;
+    energy_zero = λ t powers r e. rw e;
     admit_leaves_words = on.admit_leaves;
     start_leaves_words = on.start_leaves;
     release_leaves_words = on.release_leaves;

@@ -1,18 +1,17 @@
 -- DEMAND 1 is used with its hypotheses met, on the sets and histories of specs/Uses.antt: its parts that have several
 -- sentences, and each call refused.
-use Rattle.std.specs.Prelude.{◌≡◌, refl, [], ◌∷◌, true}
+use Rattle.std.specs.Prelude.{◌≡◌, refl, [], ◌∷◌, true, Err}
 use Rattle.std.proofs.Common.{arith}
 use Rattle.table.specs.declared.Refusal.TheVariants.{Length, NoWindow, Unfit, OffBoundary, Power, LongWaking}
 use Rattle.table.specs.Sound.{read_of}
 use Rattle.table.specs.Refusals.{start_gives, release_gives, step_gives, energy_gives}
 use Rattle.table.specs.Applies.{Lowest}
-use Rattle.admission.specs.declared.Answer.TheVariants.{Refused}
-use Rattle.admission.specs.Verdicts.{verdict, zeros, admit_of}
+use Rattle.admission.specs.Verdicts.{verdict, no_rows, admit_of}
 use Rattle.admission.specs.Applies.{AdmissionApplies}
 use Rattle.decisions.specs.Fits.{no_ticks}
 use Rattle.scheduler.specs.Releases.{release_of}
 use Rattle.scheduler.specs.Steps.{step_of}
-use Rattle.decisions.specs.Energies.{energy_of}
+use Rattle.decisions.specs.Energies.{powers, energy_of, nanojoules_of}
 use Rattle.scheduler.specs.Applies.{StartApplies, ReleaseApplies, StepApplies, EnergyApplies}
 use Rattle.histories.specs.History.{history}
 use Rattle.scheduler.specs.Starts.{read_given, no_state, start_of}
@@ -40,7 +39,7 @@ nothing_is_refused : Lowest (StartApplies (given [] 0)) Length
 unfolding read_given
 nothing_is_refused = (numbers.start_is_refused (given [] 0) Length).0 (rw nothing_is_read)
 
-nothing_hands_back : (admit_of [] ≡ verdict (Refused Length) zeros zeros zeros) × ((start_of (given [] 0)).state ≡ no_state)
+nothing_hands_back : (admit_of [] ≡ verdict (Err Length) no_rows) × ((start_of (given [] 0)).state ≡ no_state)
 unfolding read_given
 nothing_hands_back = (unsound_refused [] Length nothing_is_read, unchanged.start_gives_no_state (given [] 0) Length (rw nothing_is_read))
 
@@ -79,9 +78,9 @@ long_waking_is_fourteen = (
 )
 
 -- A reading with a waking power of 1,000,001 microwatts is refused with 13 and is 0.
-strong : Lowest (EnergyApplies no_ticks 23000 16 1000001) Power × (energy_gives Power ≡ true) × ((energy_of no_ticks 23000 16 1000001).nanojoules ≡ 0)
+strong : Lowest (EnergyApplies no_ticks (powers 23000 16 1000001)) Power × (energy_gives Power ≡ true) × (nanojoules_of (energy_of no_ticks (powers 23000 16 1000001)) ≡ 0)
 strong = (
-  (numbers.energy_is_refused no_ticks 23000 16 1000001 Power).0 refl,
-  energy_gives_lem no_ticks 23000 16 1000001 Power refl,
-  unchanged.energy_zero no_ticks 23000 16 1000001 Power refl,
+  (numbers.energy_is_refused no_ticks (powers 23000 16 1000001) Power).0 refl,
+  energy_gives_lem no_ticks (powers 23000 16 1000001) Power refl,
+  unchanged.energy_zero no_ticks (powers 23000 16 1000001) Power refl,
 )

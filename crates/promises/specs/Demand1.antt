@@ -2,24 +2,22 @@
 -- above it say what we make of them, call by call, and `demand_1` (proofs/Demand1.antt) shows that all of it holds. What
 -- a number means is `told_of` (table/specs/Refusals.antt); when a refusal applies is said in the words of RULES 3.1,
 -- column "applies when" (specs/Applies.antt of table, admission and scheduler), and `Lowest` is RULES 3.2.
-use Rattle.std.specs.Prelude.{ℕ, ◌%◌, ◌≤◌, ◌≡◌, ◌↔◌, List}
+use Rattle.std.specs.Prelude.{ℕ, ◌%◌, ◌≤◌, ◌≡◌, ◌↔◌, List, Err}
 use Rattle.table.specs.declared.Refusal.{Refusal}
 use Rattle.table.specs.declared.Refusal.TheVariants.{Unfit}
 use Rattle.table.specs.Refusals.{told_of}
 use Rattle.table.specs.Applies.{Lowest}
-use Rattle.admission.specs.declared.Answer.TheVariants as verdict
 use Rattle.admission.specs.Applies.{AdmissionApplies}
 use Rattle.admission.specs.Verdicts.{admit_of}
 use Rattle.admission.proofs as admission
 use Rattle.admission.specs.contracts as admission_contracts
 use Rattle.scheduler.specs.declared.State.{State}
 use Rattle.decisions.specs.declared.Tally.{Tally}
-use Rattle.scheduler.specs.declared.Ticked.TheVariants as ticked
-use Rattle.decisions.specs.declared.Answer.TheVariants.{Refused}
 use Rattle.scheduler.specs.Starts.{no_state, start_of, Given}
 use Rattle.scheduler.specs.Releases.{release_of}
 use Rattle.scheduler.specs.Steps.{step_of}
-use Rattle.decisions.specs.Energies.{energy_of}
+use Rattle.decisions.specs.declared.Powers.{Powers}
+use Rattle.decisions.specs.Energies.{energy_of, nanojoules_of}
 use Rattle.scheduler.specs.Applies.{StartApplies, ReleaseApplies, StepApplies, EnergyApplies}
 use Rattle.decisions.proofs as decisions
 use Rattle.decisions.specs.contracts as decisions_contracts
@@ -49,22 +47,22 @@ pub record AnyInput : Type 0 where
 -- Bad input is refused by number: a call gets a refusal exactly when that one applies and none with a lower number does;
 -- so admission gives 1 to 5, a start 1 to 4 and 14, a release 6 to 12, a step 6 and 7, an energy reading 6 and 13.
 pub record RefusedByNumber : Type 0 where
-  pub admission_is_refused : (bytes : List ℕ) (r : Refusal) → ((admit_of bytes).answer ≡ verdict.Refused r) ↔ Lowest (AdmissionApplies bytes) r
-  pub start_is_refused : (g : Given) (r : Refusal) → ((start_of g).answer ≡ Refused r) ↔ Lowest (StartApplies g) r
-  pub release_is_refused : (s : State) (task demand : ℕ) (r : Refusal) → ((release_of s task demand).answer ≡ Refused r) ↔ Lowest (ReleaseApplies s task demand) r
-  pub step_is_refused : (s : State) (t : Tally) (r : Refusal) → ((step_of s t).answer ≡ ticked.Refused r) ↔ Lowest (StepApplies s t) r
-  pub energy_is_refused : (t : Tally) (run sleep waking : ℕ) (r : Refusal) → ((energy_of t run sleep waking).answer ≡ Refused r) ↔ Lowest (EnergyApplies t run sleep waking) r
+  pub admission_is_refused : (bytes : List ℕ) (r : Refusal) → ((admit_of bytes).answer ≡ Err r) ↔ Lowest (AdmissionApplies bytes) r
+  pub start_is_refused : (g : Given) (r : Refusal) → ((start_of g).answer ≡ Err r) ↔ Lowest (StartApplies g) r
+  pub release_is_refused : (s : State) (task demand : ℕ) (r : Refusal) → ((release_of s task demand).answer ≡ Err r) ↔ Lowest (ReleaseApplies s task demand) r
+  pub step_is_refused : (s : State) (t : Tally) (r : Refusal) → ((step_of s t).answer ≡ Err r) ↔ Lowest (StepApplies s t) r
+  pub energy_is_refused : (t : Tally) (powers : Powers) (r : Refusal) → (energy_of t powers ≡ Err r) ↔ Lowest (EnergyApplies t powers) r
 
 -- All is left unchanged: a refused release hands back the very state, a refused step the very state and tally. A refused
 -- start has no state to hand back: it gives one of no tasks, which every release and step refuses with 6. A refused
 -- energy reading is 0.
 pub record Unchanged : Type 0 where
-  pub release_unchanged : (s : State) (task demand : ℕ) (r : Refusal) → (release_of s task demand).answer ≡ Refused r → (release_of s task demand).state ≡ s
-  pub step_unchanged : (s : State) (t : Tally) (r : Refusal) → (step_of s t).answer ≡ ticked.Refused r → ((step_of s t).state ≡ s) × ((step_of s t).tally ≡ t)
-  pub start_gives_no_state : (g : Given) (r : Refusal) → (start_of g).answer ≡ Refused r → (start_of g).state ≡ no_state
+  pub release_unchanged : (s : State) (task demand : ℕ) (r : Refusal) → (release_of s task demand).answer ≡ Err r → (release_of s task demand).state ≡ s
+  pub step_unchanged : (s : State) (t : Tally) (r : Refusal) → (step_of s t).answer ≡ Err r → ((step_of s t).state ≡ s) × ((step_of s t).tally ≡ t)
+  pub start_gives_no_state : (g : Given) (r : Refusal) → (start_of g).answer ≡ Err r → (start_of g).state ≡ no_state
   pub no_state_gets_6 : (task demand : ℕ) (t : Tally)
-      → ((release_of no_state task demand).answer ≡ Refused Unfit) × ((step_of no_state t).answer ≡ ticked.Refused Unfit) × ((told_of Unfit).number ≡ 6)
-  pub energy_zero : (t : Tally) (run sleep waking : ℕ) (r : Refusal) → (energy_of t run sleep waking).answer ≡ Refused r → (energy_of t run sleep waking).nanojoules ≡ 0
+      → ((release_of no_state task demand).answer ≡ Err Unfit) × ((step_of no_state t).answer ≡ Err Unfit) × ((told_of Unfit).number ≡ 6)
+  pub energy_zero : (t : Tally) (powers : Powers) (r : Refusal) → energy_of t powers ≡ Err r → nanojoules_of (energy_of t powers) ≡ 0
   -- A refused call on words, whose low byte is the number, leaves every lent word as it was; but number 5 comes back
   -- with the verdict.
   pub admit_leaves_words : (table words : List ℕ) → 1 ≤ (admit_on table words).answer % 256 → ((admit_on table words).answer % 256 ≡ 5 → ⊥) → (admit_on table words).verdict ≡ words

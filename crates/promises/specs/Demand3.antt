@@ -6,7 +6,7 @@
 -- the start was given. Its `taken` are the accepted releases, its `finishes` the jobs that ran their last unit. Places
 -- count from 0: the task at place i is task i + 1. A start may have been refused, as it is where V is above S: then
 -- nothing moves, and only what says that something happens asks for an accepted one.
-use Rattle.std.specs.Prelude.{ℕ, suc, ◌+◌, ◌-◌, ◌≤◌, ◌<◌, ◌≡◌, refl, List, get_or}
+use Rattle.std.specs.Prelude.{ℕ, suc, ◌+◌, ◌-◌, ◌≤◌, ◌<◌, ◌≡◌, refl, List, get_or, Result, Ok, Err}
 use Rattle.std.proofs.Common.{sym, subst, ◌∙◌, arith}
 use Rattle.std.proofs.Math.Logic.{⊎_elim}
 use Rattle.base.specs.List.{Each, In}
@@ -15,24 +15,21 @@ use Rattle.base.proofs.ListLaws.{each_says}
 use Rattle.theory.specs.Rounds.{Window, Overrun}
 use Rattle.theory.specs.Pattern.{offset}
 use Rattle.theory.specs.Boundary.{boundary}
+use Rattle.table.specs.declared.Refusal.{Refusal}
 use Rattle.table.specs.declared.Refusal.TheVariants.{NoWindow}
-use Rattle.table.specs.declared.Reading.{Reading}
-use Rattle.table.specs.declared.Reading.TheVariants as read
 use Rattle.table.specs.Bytes.{record_at}
 use Rattle.table.specs.Sound.{places, read_of}
 use Rattle.table.specs.Set.{rules_of}
 use Rattle.table.specs.Rules.{SoundTable}
 use Rattle.table.proofs.SoundLaws.{read_sound, sound_read}
-use Rattle.admission.specs.declared.Answer.TheVariants.{Admitted, Refused}
 use Rattle.admission.specs.Figure.{limit, figure}
-use Rattle.admission.specs.Says.{HasWindow, Rows, Judged, admitted, refused}
-use Rattle.admission.specs.Verdicts.{admit_of}
+use Rattle.admission.specs.Says.{HasWindow, RightRows, Judged, admitted, refused}
+use Rattle.admission.specs.Verdicts.{no_row, admit_of}
 use Rattle.admission.proofs.AdmitLaws.{admit_says, refused_exactly}
 use Rattle.decisions.specs.declared.Job.TheVariants.{Resting, Working}
 use Rattle.scheduler.specs.declared.State.{State}
 use Rattle.decisions.specs.declared.Tally.{Tally}
 use Rattle.decisions.specs.declared.Tick.TheVariants.{Run, Tail}
-use Rattle.scheduler.specs.declared.Ticked.TheVariants as ticked
 use Rattle.decisions.specs.Fits.{clock_end, no_entry}
 use Rattle.scheduler.specs.States.{entry_in}
 use Rattle.scheduler.specs.Starts.{Given, read_given, fresh_state, start_of, IsStarted}
@@ -53,11 +50,11 @@ use Rattle.bridge.specs.Reached as reached
 
 -- A set of n tasks is admitted.
 abbrev pub IsAdmitted : Given → ℕ → Type 0
-IsAdmitted g n = (admit_of g.table).answer ≡ Admitted n
+IsAdmitted g n = (admit_of g.table).answer ≡ Ok n
 
 -- `figure_of` is the response figure that the verdict reports for the task at place i.
 abbrev pub figure_of : Given → ℕ → ℕ
-figure_of g i = get_or (admit_of g.table).figures i 0
+figure_of g i = (get_or (admit_of g.table).rows i no_row).figure
 
 -- `worst` is what the worst pattern, given to the first m tasks, has made at clock t; `first_release` is the tick at which
 -- it first releases a task: H for the first, 1 for the others.
@@ -74,7 +71,7 @@ pub record FirstFailing (g : Given) (n : ℕ) : Type 0 where
   pub place : ℕ
   pub rounds : ℕ
   pub a_task : place < n
-  pub named : (admit_of g.table).answer ≡ Refused (NoWindow (place + 1) rounds)
+  pub named : (admit_of g.table).answer ≡ Err (NoWindow (place + 1) rounds)
   pub no_window : HasWindow (rules_of g.table) place → ⊥
   pub windows_before : (i : ℕ) → i < place → HasWindow (rules_of g.table) i
   pub late : IsStarted g → let t = first_release g place + (rules_of g.table).T place in AtWork (worst g (place + 1) t) place (first_release g place) t
@@ -102,42 +99,42 @@ pub record Demand3 (g : Given) (n : ℕ) : Type 0 where
   -- next sleep slot": where a step answered a tail tick, lent any tally t, no step of whatever goes on from the state it
   -- left, lent any tally u, answers a run before the end of the slot that starts at the first boundary after it.
   pub tail_rests : (before between : List Call) (p : Past) (t u : Tally) (k : ℕ)
-      → (step_of (history g before).state t).answer ≡ ticked.Tick Tail → p.state ≡ (step_of (history g before).state t).state
-      → (step_of (after p between).state u).answer ≡ ticked.Tick (Run k)
+      → (step_of (history g before).state t).answer ≡ Ok Tail → p.state ≡ (step_of (history g before).state t).state
+      → (step_of (after p between).state u).answer ≡ Ok (Run k)
       → boundary (rules_of g.table).H (history g before).state.clock + (rules_of g.table).S ≤ (after p between).state.clock
 
 -- `Admits` is what an admitted table's verdict says of it: it is sound, and every task has a window, whose figure is
 -- reported.
 record Admits (g : Given) (n : ℕ) : Type 0 where
-  sound : read_of g.table ≡ read.Sound n
+  sound : read_of g.table ≡ Ok n
   window : (i : ℕ) → i < n → (w : ℕ) × Window (rules_of g.table) i (limit (rules_of g.table) i) w × (figure_of g i ≡ figure (rules_of g.table) i w)
 
 -- Where the verdict is admitted, `Admits` holds.
 admits : (g : Given) (n : ℕ) → IsAdmitted g n → Admits g n
 admits g n a = go (read_of g.table) refl
   where
-    by_verdict : (m : ℕ) → read_of g.table ≡ read.Sound m → Judged (rules_of g.table) m (admit_of g.table) → Admits g n
+    by_verdict : (m : ℕ) → read_of g.table ≡ Ok m → Judged (rules_of g.table) m (admit_of g.table) → Admits g n
     by_verdict m e (admitted b A) =
-        let w : Admitted m ≡ Admitted n = sym b ∙ a in
+        let w : Ok m ≡ Ok n = sym b ∙ a in
         let same : m ≡ n = cc in
         record {
           sound = rw (← same) e;
-          window = λ i l. (get_or (admit_of g.table).windows i 0, (A.row i (omega arith)).window, (A.row i (omega arith)).figure_is);
+          window = λ i l. ((get_or (admit_of g.table).rows i no_row).window, (A.row i (omega arith)).window, (A.row i (omega arith)).figure_is);
         }
     by_verdict m e (refused f k l b P A) =
-        let w : Refused (NoWindow (f + 1) k) ≡ Admitted n = sym b ∙ a in
+        let w : Err (NoWindow (f + 1) k) ≡ Ok n = sym b ∙ a in
         let z : ◌≡◌ {A = ℕ} 0 1 = cc in absurd (let y : ⊥ = omega arith in y)
 
-    go : (r : Reading) → read_of g.table ≡ r → Admits g n
-    go (read.Sound m) e = by_verdict m e (admit_says g.table m e)
-    go (read.Refused r) e =
-        let w : Refused r ≡ Admitted n = rw e at a in
+    go : (r : Result ℕ Refusal) → read_of g.table ≡ r → Admits g n
+    go (Ok m) e = by_verdict m e (admit_says g.table m e)
+    go (Err r) e =
+        let w : Err r ≡ Ok n = rw e at a in
         let z : ◌≡◌ {A = ℕ} 0 1 = cc in absurd (let y : ⊥ = omega arith in y)
 
 -- REST AFTER A TAIL TICK holds of any state of 16 places, with any tally, over any calls. The state may be one that was
 -- restored or handed in.
-pub any_state_rests : (s : State) (t u : Tally) (k : ℕ) (p : Past) (between : List Call) → Sized s → (step_of s t).answer ≡ ticked.Tick Tail
-    → p.state ≡ (step_of s t).state → (step_of (after p between).state u).answer ≡ ticked.Tick (Run k)
+pub any_state_rests : (s : State) (t u : Tally) (k : ℕ) (p : Past) (between : List Call) → Sized s → (step_of s t).answer ≡ Ok Tail
+    → p.state ≡ (step_of s t).state → (step_of (after p between).state u).answer ≡ Ok (Run k)
     → boundary s.sleep.period s.clock + s.sleep.work ≤ (after p between).state.clock
 any_state_rests = rest.tail_rests
 
@@ -180,7 +177,7 @@ module _ (g : Given) where
 
 -- OF A SOUND SET THAT WAS STARTED these hold.
 module _ (g : Given) (n : ℕ) (start : IsStarted g) (sound : SoundTable g.table n) where
-  e : read_given g ≡ read.Sound n
+  e : read_given g ≡ Ok n
   e = let r = started_reads g start in startable_given g n (record { sound = sound; waking_fits = (given_says g r.0 r.1).1 })
 
   -- Only the n tasks are at work.
@@ -196,14 +193,14 @@ module _ (g : Given) (n : ℕ) (start : IsStarted g) (sound : SoundTable g.table
   -- Where the verdict is refusal 5 at the task at place f, the worst pattern, given to the tasks up to it, shows it
   -- late.
   failing_is_late : (f k : ℕ) → f < n → Overrun (rules_of g.table) f (limit (rules_of g.table) f) k
-      → Rows (rules_of g.table) f (admit_of g.table).windows (admit_of g.table).figures (admit_of g.table).rounds
+      → RightRows (rules_of g.table) f (admit_of g.table).rows
       → let t = first_release g f + (rules_of g.table).T f in AtWork (worst g (f + 1) t) f (first_release g f) t
   failing_is_late f k l P A =
       let one : suc f ≡ f + 1 = omega arith in
       let t : ℕ = first_release g f + (rules_of g.table).T f in
       let late : AtWork (reached.patterned g n (f + 1) t) f (first_release g f) t =
       subst (λ (c : ℕ). AtWork (reached.patterned g n c t) f (first_release g f) t) one
-      (reached.late_then g n e f k (λ j lj. (get_or (admit_of g.table).windows j 0, (A.row j lj).window)) l P) in
+      (reached.late_then g n e f k (λ j lj. ((get_or (admit_of g.table).rows j no_row).window, (A.row j lj).window)) l P) in
       rw e late
 
 -- OF AN ADMITTED SET this holds: a job of any task that is unfinished is younger than its figure.
@@ -221,7 +218,7 @@ module _ (g : Given) (n : ℕ) (start : IsStarted g) (ok : IsAdmitted g n) where
   S : SoundTable g.table n
   S = read_sound g.table n A.sound
 
-  reads : read_given g ≡ read.Sound n
+  reads : read_given g ≡ Ok n
   reads = e g n start S
 
   windows : (k : ℕ) → k ≤ n - 1 → 1 ≤ n → (w : ℕ) × Window (rules_of g.table) k (limit (rules_of g.table) k) w

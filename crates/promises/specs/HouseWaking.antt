@@ -1,6 +1,6 @@
 -- What is said of waking is used here with all hypotheses met, on the house table, whose S is 8 and H 20, with V = 2;
 -- and case J of RULES 15 is computed by the definitions, with V = 0, V = 2 and V = S.
-use Rattle.std.specs.Prelude.{ℕ, ◌+◌, ◌<◌, ◌≡◌, refl, List, [], ◌∷◌, ◌++◌}
+use Rattle.std.specs.Prelude.{Ok, ℕ, ◌+◌, ◌<◌, ◌≡◌, refl, List, [], ◌∷◌, ◌++◌, Err}
 use Rattle.std.proofs.Common.{arith}
 use Rattle.base.specs.First.{first_from}
 use Rattle.base.specs.Every.{every}
@@ -15,14 +15,12 @@ use Rattle.table.specs.Times.{release_time}
 use Rattle.table.specs.Sound.{ask_records, ask_order, ask_sleep, read_of}
 use Rattle.table.specs.Set.{rules_of}
 use Rattle.table.specs.Rules.{SoundTable}
-use Rattle.decisions.specs.declared.Answer.TheVariants.{Refused}
 use Rattle.decisions.specs.declared.Tally.{Tally}
-use Rattle.decisions.specs.Energies.{energy_of}
+use Rattle.decisions.specs.Energies.{powers, energy_of}
 use Rattle.decisions.specs.Asks.{ask_demand, ask_task, may_release}
 use Rattle.scheduler.specs.States.{with_waking, record_in, period_before, state_fits, entries_of}
 use Rattle.scheduler.specs.Starts.{read_given, start_of, IsStarted}
 use Rattle.scheduler.specs.Releases.{release_answer, release_of}
-use Rattle.scheduler.specs.declared.Ticked.TheVariants as ticked
 use Rattle.scheduler.specs.Steps.{step_of}
 use Rattle.histories.specs.History.{Call, release, step, Own, next, history}
 use Rattle.histories.specs.Pattern.{due_at, releases_at, worst_pattern}
@@ -39,7 +37,7 @@ counted run slot tail waking = record { run = run; slot = slot; tail = tail; wak
 
 -- CASE J is run: with V = 2 the tally is run 11, slot 12, tail 13 and waking 4, no call is refused, and the energy at
 -- 23,000, 16 and 9,000 microwatts is 289,400 nanojoules.
-case_j : ((history house forty).tally ≡ counted 11 12 13 4) × ((history house forty).refusals ≡ 0) × ((energy_of (history house forty).tally 23000 16 9000).nanojoules ≡ 289400)
+case_j : ((history house forty).tally ≡ counted 11 12 13 4) × ((history house forty).refusals ≡ 0) × (energy_of (history house forty).tally (powers 23000 16 9000) ≡ Ok 289400)
 unfolding forty house bytes_of word_at record_at first_from ask_records ask_order ask_sleep read_of read_given ceil ready every record_in period_before state_fits entries_of step_of ask_demand ask_task may_release release_answer release_time next folded offset due_at releases_at worst_pattern
 case_j = (refl, refl, refl)
 
@@ -114,23 +112,23 @@ together : 12 + 4 ≡ 16
 together = rw (case_j.0, case_j_with.0) at (waking.together_as_before house forty house_starts)
 
 -- Where waking costs what sleeping costs, both tallies have the same energy.
-same_cost : energy_of (counted 11 12 13 4) 23000 16 16 ≡ energy_of (counted 11 16 13 0) 23000 16 16
+same_cost : energy_of (counted 11 12 13 4) (powers 23000 16 16) ≡ energy_of (counted 11 16 13 0) (powers 23000 16 16)
 same_cost = waking.same_power_same_energy (counted 11 16 13 0) (counted 11 12 13 4) 23000 16 (record { runs_same = refl; tails_same = refl; slots_same = refl })
 
 -- 79 bytes get 1 whatever V is; a V of 9 in the state, 41 ticks counted at clock 40, or a tally of more than
 -- 1,000,000,000 ticks get 6; a waking power of 1,000,001 gets 13.
-short_table : (start_of (given [] 9)).answer ≡ Refused Length
+short_table : (start_of (given [] 9)).answer ≡ Err Length
 unfolding read_of
 short_table = waking.after_four (given [] 9) Length refl
 
-long_state : let s = with_waking (history house forty).state 9 in ((release_of s 2 3).answer ≡ Refused Unfit) × ((step_of s (counted 11 12 13 4)).answer ≡ ticked.Refused Unfit)
+long_state : let s = with_waking (history house forty).state 9 in ((release_of s 2 3).answer ≡ Err Unfit) × ((step_of s (counted 11 12 13 4)).answer ≡ Err Unfit)
 long_state = waking.six_in_a_state (with_waking (history house forty).state 9) (counted 11 12 13 4) 2 3 (omega (arith, forty_is.1))
 
-one_more : (step_of (history house forty).state (counted 11 12 13 5)).answer ≡ ticked.Refused Unfit
+one_more : (step_of (history house forty).state (counted 11 12 13 5)).answer ≡ Err Unfit
 one_more = waking.six_of_a_step (history house forty).state (counted 11 12 13 5) (λ e. omega (arith, forty_is.0, e))
 
-too_many : (energy_of (counted 0 0 1 1000000000) 23000 16 1000001).answer ≡ Refused Unfit
-too_many = waking.six_of_a_reading (counted 0 0 1 1000000000) 23000 16 1000001 (omega arith)
+too_many : energy_of (counted 0 0 1 1000000000) (powers 23000 16 1000001) ≡ Err Unfit
+too_many = waking.six_of_a_reading (counted 0 0 1 1000000000) (powers 23000 16 1000001) (omega arith)
 
-too_strong : (energy_of (counted 11 12 13 4) 23000 16 1000001).answer ≡ Refused Power
-too_strong = waking.joins_thirteen (counted 11 12 13 4) 23000 16 1000001 (omega arith) (omega arith)
+too_strong : energy_of (counted 11 12 13 4) (powers 23000 16 1000001) ≡ Err Power
+too_strong = waking.joins_thirteen (counted 11 12 13 4) (powers 23000 16 1000001) (omega arith) (omega arith)

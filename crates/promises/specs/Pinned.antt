@@ -1,6 +1,6 @@
 -- What no theorem can see: numbers, answers and the order of words, held against literal numbers. A definition that is
 -- wrong together with its code is refused here.
-use Rattle.std.specs.Prelude.{ℕ, ◌≡◌, refl, Bool, true, false, [], ◌∷◌, ◌++◌, replicate, set}
+use Rattle.std.specs.Prelude.{ℕ, ◌≡◌, refl, Bool, true, false, [], ◌∷◌, ◌++◌, replicate, set, Ok, Some}
 use Rattle.base.specs.First.{first_from}
 use Rattle.base.specs.Sum.{sum_to}
 use Rattle.base.specs.Every.{every}
@@ -14,10 +14,8 @@ use Rattle.table.specs.Bytes.{word_at, record_at}
 use Rattle.table.specs.Refusals.{told_of, Givers, givers}
 use Rattle.table.specs.Times.{waiting, release_time}
 use Rattle.table.specs.Sound.{largest, places, ask_records, ask_order, ask_sleep, read_of}
-use Rattle.admission.specs.declared.Answer.TheVariants.{Admitted}
-use Rattle.admission.specs.Verdicts.{verdict, walk_from, zeros}
+use Rattle.admission.specs.Verdicts.{row, no_rows, verdict, walk_from}
 use Rattle.decisions.specs.declared.Job.TheVariants as job
-use Rattle.decisions.specs.declared.Last.TheVariants as last
 use Rattle.scheduler.specs.declared.State.{State}
 use Rattle.decisions.specs.declared.Tick.TheVariants.{Run, Slot, Tail}
 use Rattle.decisions.specs.Fits.{clock_end, no_entry}
@@ -56,8 +54,8 @@ two = record {
   n = 2;
   clock = 45;
   waking = 3;
-  entries = record { task = record { label = 11; work = 2; period = 20; reserved = 0 }; job = job.Working 40 1; last = last.At 40 }
-      ∷ record { task = record { label = 12; work = 3; period = 50; reserved = 0 }; job = job.Resting; last = last.At 21 }
+  entries = record { task = record { label = 11; work = 2; period = 20; reserved = 0 }; job = job.Working 40 1; last = Some 40 }
+      ∷ record { task = record { label = 12; work = 3; period = 50; reserved = 0 }; job = job.Resting; last = Some 21 }
       ∷ replicate 14 no_entry;
 }
 
@@ -74,7 +72,7 @@ pub tally_words_are : tally_words (record { run = 11; slot = 12; tail = 13; waki
 tally_words_are = refl
 
 -- A verdict's words are 16 windows, 16 figures and 16 rounds.
-pub verdict_words_are : verdict_words (verdict (Admitted 2) (set (set zeros 0 10) 1 13) (set (set zeros 0 10) 1 32) (set (set zeros 0 1) 1 2))
+pub verdict_words_are : verdict_words (verdict (Ok 2) (set (set no_rows 0 (row 10 10 1)) 1 (row 13 32 2)))
     ≡ (10 ∷ 13 ∷ []) ++ replicate 14 0 ++ (10 ∷ 32 ∷ []) ++ replicate 14 0 ++ (1 ∷ 2 ∷ []) ++ replicate 14 0
 unfolding list_from
 verdict_words_are = refl

@@ -4,15 +4,20 @@
 -- has to show, `Learnt` what it learns of the result and of the parameters at exit. So an `ensures` that is weakened or
 -- removed in src/, or a `requires` that is added there, is refused here.
 -- Every public function stands here once, in the order of its crate; `tools/settled` names one that does not.
-use Rattle.std.specs.Prelude.{◌≡◌, refl}
+use Rattle.std.specs.Prelude.{ℕ, ◌≡◌, refl}
 use Rattle.std.proofs.Common.{sym, ◌∙◌}
 use contract.Lifetimes.{Lfts}
+use denote.Param.Laws.{Laws}
+use denote.RattleType.{RattleType}
 use denote.Triple.Entry.{Args, Res}
 use denote.Triple.Clauses.{Ended, Lasts, AtExit, at_exit}
+use mathlib.Core.List.{Mem}
+use mir.Syntax.{Dict}
 use Rattle.table.proofs as table
 use Rattle.table.specs.contracts as table_contracts
 use Rattle.admission.proofs as admission
 use Rattle.admission.specs.contracts as admission_contracts
+use Rattle.decisions.specs.declared.Places.{Ghosts}
 use Rattle.decisions.proofs as decisions
 use Rattle.decisions.specs.contracts as decisions_contracts
 use Rattle.scheduler.proofs as scheduler
@@ -38,6 +43,12 @@ module _ (f : Ended) where
       (κs : Lfts f.signature.lifetimes) (a : Args f.signature κs) →
       Asked κs a × ((x y : Res f.signature κs) (v w : Lasts f κs a) → Learnt κs a x (at_exit f κs a v) → Learnt κs a y (at_exit f κs a w) → (x ≡ y) × (v ≡ w))
 
+  -- A contract over a type parameter asks besides that the type lives as long as the call: `Lives` is that fact.
+  abbrev pub SettlesWhere : Asks → Asks → Tells → Type 0
+  SettlesWhere Lives Asked Learnt =
+      (κs : Lfts f.signature.lifetimes) (a : Args f.signature κs) →
+      (Lives κs a → Asked κs a) × ((x y : Res f.signature κs) (v w : Lasts f κs a) → Learnt κs a x (at_exit f κs a v) → Learnt κs a y (at_exit f κs a w) → (x ≡ y) × (v ≡ w))
+
 -- THE LAW: a contract that asks nothing, and gives the result and what is left by one definition each, settles them.
 settled : {A B : Type 0} {Allowed : A → B → Type 0} {promised : A} {left : B} → ((x : A) (v : B) → Allowed x v → (x ≡ promised) × (v ≡ left)) → Unit {0} × ((x y : A) (v w : B) → Allowed x v → Allowed y w → (x ≡ y) × (v ≡ w))
 settled given = (tt, λ x y v w p q. ((given x v p).0 ∙ sym (given y w q).0, (given x v p).1 ∙ sym (given y w q).1))
@@ -55,6 +66,9 @@ record_at κs a = settled (λ x v p. (p, refl))
 word_at : Settles table_contracts.word_at.ended table.word_at.Reads.Asked table.word_at.Reads.Learnt
 word_at κs a = settled (λ x v p. (p, refl))
 
+record_bytes : Settles table_contracts.record_bytes.ended table.record_bytes.Reads.Asked table.record_bytes.Reads.Learnt
+record_bytes κs a = settled (λ x v p. (p, refl))
+
 record_fits : Settles table_contracts.record_fits.ended table.record_fits.Reads.Asked table.record_fits.Reads.Learnt
 record_fits κs a = settled (λ x v p. (p, refl))
 
@@ -67,8 +81,8 @@ release_time κs a = settled (λ x v p. (p, refl))
 no_window : Settles table_contracts.no_window.ended table.no_window.Reads.Asked table.no_window.Reads.Learnt
 no_window κs a = settled (λ x v p. (p, refl))
 
-tell : Settles table_contracts.tell.ended table.tell.Reads.Asked table.tell.Reads.Learnt
-tell κs a = settled (λ x v p. (p, refl))
+told : Settles table_contracts.ToldFromRefusal.from.ended table.ToldFromRefusal.from.Reads.Asked table.ToldFromRefusal.from.Reads.Learnt
+told κs a = settled (λ x v p. (p, refl))
 
 -- The public function of crate admission is settled.
 pub admit : Settles admission_contracts.admit.ended admission.admit.Reads.Asked admission.admit.Reads.Learnt
@@ -78,6 +92,9 @@ admit κs a = settled (λ x v p. (p, refl))
 -- `step` is lent the tally besides.
 pub start : Settles scheduler_contracts.start.ended scheduler.start.Reads.Asked scheduler.start.Reads.Learnt
 start κs a = settled (λ x v p. (p, refl))
+
+entry : Settles scheduler_contracts.StatePlaces.entry.ended scheduler.StatePlaces.entry.Reads.Asked scheduler.StatePlaces.entry.Reads.Learnt
+entry κs a = settled (λ x v p. (p, refl))
 
 pub release : Settles scheduler_contracts.release.ended scheduler.release.Reads.Asked scheduler.release.Reads.Learnt
 release κs a = settled (λ x v p. (p, refl))
@@ -91,6 +108,9 @@ step_on κs a = settled (λ x v p. (p, refl))
 -- The public functions of crate decisions are settled.
 pub energy : Settles decisions_contracts.energy.ended decisions.energy.Reads.Asked decisions.energy.Reads.Learnt
 energy κs a = settled (λ x v p. (p, refl))
+
+nanojoules : Settles decisions_contracts.nanojoules.ended decisions.nanojoules.Reads.Asked decisions.nanojoules.Reads.Learnt
+nanojoules κs a = settled (λ x v p. (p, refl))
 
 waking_fits : Settles decisions_contracts.waking_fits.ended decisions.waking_fits.Reads.Asked decisions.waking_fits.Reads.Learnt
 waking_fits κs a = settled (λ x v p. (p, refl))
@@ -116,8 +136,9 @@ in_slot κs a = settled (λ x v p. (p, refl))
 last_boundary : Settles decisions_contracts.last_boundary.ended decisions.last_boundary.Reads.Asked decisions.last_boundary.Reads.Learnt
 last_boundary κs a = settled (λ x v p. (p, refl))
 
-run_or_tail : Settles decisions_contracts.run_or_tail.ended decisions.run_or_tail.Reads.Asked decisions.run_or_tail.Reads.Learnt
-run_or_tail κs a = settled (λ x v p. (p, refl))
+next_tick : (P : RattleType) (L : Laws P) (G : Ghosts P.Denot) (d : Dict)
+    → SettlesWhere (decisions_contracts.next_tick.ended P G d) (λ κs a. (k : ℕ) → Mem k P.lives → Mem k κs.1.0) (decisions.next_tick.Reads.Asked P L G d) (decisions.next_tick.Reads.Learnt P L G d)
+next_tick P L G d κs a = (λ lives. lives, (settled (λ x v p. (p, refl))).1)
 
 count_of : Settles decisions_contracts.count_of.ended decisions.count_of.Reads.Asked decisions.count_of.Reads.Learnt
 count_of κs a = settled (λ x v p. (p, refl))

@@ -1,6 +1,6 @@
 -- No sentence of the demands is vacuous: each theorem that has hypotheses is used here, in HouseJobs.antt or in
 -- proofs/UsesOfDemand1.antt, with all of them met, on the house table or on a set that is refused.
-use Rattle.std.specs.Prelude.{ℕ, ◌+◌, ◌≤◌, ◌<◌, ◌≡◌, refl, List, [], ◌∷◌, ◌++◌, true, length, replicate}
+use Rattle.std.specs.Prelude.{ℕ, ◌+◌, ◌*◌, ◌≤◌, ◌<◌, ◌≡◌, refl, List, [], ◌∷◌, ◌++◌, true, length, replicate, Ok, Err}
 use Rattle.std.proofs.Common.{ap, sym, ◌∙◌, arith}
 use Rattle.base.specs.First.{first_from}
 use Rattle.base.specs.Sum.{sum_to}
@@ -14,12 +14,10 @@ use Rattle.theory.specs.Pattern.{offset}
 use Rattle.theory.specs.Boundary.{boundary}
 use Rattle.theory.proofs.RoundsLaws.{outcome_says, found_window}
 use Rattle.table.specs.declared.Refusal.TheVariants.{Length, NoWindow, Unfit, OffBoundary, LongWaking}
-use Rattle.table.specs.declared.Reading.TheVariants as read
 use Rattle.table.specs.Bytes.{word_at, record_at}
 use Rattle.table.specs.Sound.{places, ask_records, ask_order, ask_sleep, read_of}
 use Rattle.table.specs.Refusals.{admission_gives, start_gives}
 use Rattle.table.specs.Set.{rules_of}
-use Rattle.admission.specs.declared.Answer.TheVariants.{Admitted, Refused}
 use Rattle.table.specs.Times.{waiting, release_time}
 use Rattle.admission.specs.Figure.{limit}
 use Rattle.admission.specs.Says.{HasWindow, Judged}
@@ -27,14 +25,12 @@ use Rattle.admission.specs.Verdicts.{walk_from, admit_of}
 use Rattle.decisions.specs.declared.Job.TheVariants.{Resting, Working}
 use Rattle.decisions.specs.declared.Tally.{Tally}
 use Rattle.decisions.specs.declared.Tick.TheVariants.{Run, Slot, Tail}
-use Rattle.scheduler.specs.declared.Ticked.TheVariants as ticked
-use Rattle.decisions.specs.declared.Answer.TheVariants as answer
 use Rattle.decisions.specs.Fits.{no_ticks, total}
 use Rattle.scheduler.specs.States.{entry_in, record_in, period_before, state_fits, entries_of}
 use Rattle.decisions.specs.Asks.{ask_demand, ask_task, may_release}
 use Rattle.scheduler.specs.Releases.{release_answer, release_of}
 use Rattle.scheduler.specs.Steps.{tick_of, made, step_of}
-use Rattle.decisions.specs.Energies.{energy_of}
+use Rattle.decisions.specs.Energies.{powers, energy_of}
 use Rattle.scheduler.specs.Applies.{Startable, RulesKept}
 use Rattle.scheduler.specs.Fresh.{Fresh}
 use Rattle.scheduler.specs.MayRun.{MayRun}
@@ -61,11 +57,11 @@ unfoldable pub figure_1 : Given
 figure_1 = given (bytes_of 0 (5 per 10 ∷ 1 per 10 ∷ 1 per 15 ∷ 2 per 26 ∷ [])) 0
 
 -- What the theorems ask of the house table and of Figure 1 holds by computation.
-pub house_sound : read_given house ≡ read.Sound 4
+pub house_sound : read_given house ≡ Ok 4
 unfolding house bytes_of word_at record_at first_from ask_records ask_order ask_sleep read_of read_given
 house_sound = refl
 
-pub house_admitted : (admit_of house.table).answer ≡ Admitted 4
+pub house_admitted : (admit_of house.table).answer ≡ Ok 4
 unfolding house bytes_of word_at record_at first_from ask_records ask_order ask_sleep read_of ceil sum_to demand rounds outcome waiting walk_from
 house_admitted = refl
 
@@ -73,11 +69,11 @@ pub house_figures : (figure_of house 1 ≡ 32) × (figure_of house 3 ≡ 38) × 
 unfolding house bytes_of word_at record_at first_from ask_records ask_order ask_sleep read_of ceil sum_to demand rounds outcome waiting walk_from offset
 house_figures = (refl, refl, refl)
 
-pub figure_1_sound : read_given figure_1 ≡ read.Sound 3
+pub figure_1_sound : read_given figure_1 ≡ Ok 3
 unfolding figure_1 bytes_of word_at record_at first_from ask_records ask_order ask_sleep read_of read_given
 figure_1_sound = refl
 
-pub figure_1_refused : (admit_of figure_1.table).answer ≡ Refused (NoWindow 2 1)
+pub figure_1_refused : (admit_of figure_1.table).answer ≡ Err (NoWindow 2 1)
 unfolding figure_1 bytes_of word_at record_at first_from ask_records ask_order ask_sleep read_of ceil sum_to demand rounds outcome waiting walk_from
 figure_1_refused = refl
 
@@ -101,7 +97,7 @@ figure_1_starts = rw figure_1_sound
 unfoldable pub eight : List Call
 eight = step ∷ step ∷ step ∷ step ∷ step ∷ step ∷ step ∷ step ∷ []
 
-house_tail : ((step_of (history house eight).state (history house eight).tally).answer ≡ ticked.Tick Tail) × ((history house eight).state.clock ≡ 8)
+house_tail : ((step_of (history house eight).state (history house eight).tally).answer ≡ Ok Tail) × ((history house eight).state.clock ≡ 8)
 unfolding eight house bytes_of word_at record_at first_from ask_records ask_order ask_sleep read_of read_given ceil ready every record_in period_before state_fits entries_of step_of next folded
 house_tail = (refl, refl)
 
@@ -120,7 +116,7 @@ eight_tick : TickIs (history house eight).state (history house eight).tally
 eight_tick = demand_2.each_tick_is_the_defined_one (history house eight).state (history house eight).tally eight_kept (omega (arith, house_tail.1))
 
 -- No bytes are refused with 1, by a start and by admission (proofs/UsesOfDemand1.antt says what comes back).
-pub nothing_is_read : read_of [] ≡ read.Refused Length
+pub nothing_is_read : read_of [] ≡ Err Length
 unfolding read_of
 nothing_is_read = refl
 
@@ -129,23 +125,23 @@ unfolding read_given
 nothing_is_given = (admission_gives_lem [] Length (rw nothing_is_read), start_gives_lem (given [] 0) Length (rw nothing_is_read))
 
 -- At tick 8 a release of task 1 is refused with 10, since 8 is no multiple of 20.
-pub house_off_boundary : (release_of (history house eight).state 1 2).answer ≡ answer.Refused OffBoundary
+pub house_off_boundary : (release_of (history house eight).state 1 2).answer ≡ Err OffBoundary
 unfolding eight house bytes_of word_at record_at first_from ask_records ask_order ask_sleep read_of read_given ceil ready every record_in period_before state_fits entries_of step_of next folded release_time ask_demand ask_task may_release release_answer
 house_off_boundary = refl
 
 -- At tick 8 a step that is lent a tally of zeros is refused with 6.
-pub house_wrong_tally : (step_of (history house eight).state no_ticks).answer ≡ ticked.Refused Unfit
+pub house_wrong_tally : (step_of (history house eight).state no_ticks).answer ≡ Err Unfit
 unfolding eight house bytes_of word_at record_at first_from ask_records ask_order ask_sleep read_of read_given ceil ready every record_in period_before state_fits entries_of step_of next folded
 house_wrong_tally = refl
 
 -- The house table with V = 9, which is above its S, is refused with 14.
-pub long_waking : (start_of (given house.table 9)).answer ≡ answer.Refused LongWaking
+pub long_waking : (start_of (given house.table 9)).answer ≡ Err LongWaking
 unfolding house bytes_of word_at record_at first_from ask_records ask_order ask_sleep read_of read_given
 long_waking = refl
 
 -- Case J's energy at 23,000, 16 and 9,000 microwatts is 289,400 with V = 2.
-energy_of_j : (energy_of (record { run = 11; slot = 12; tail = 13; waking = 4 }) 23000 16 9000).nanojoules ≡ 289400
-energy_of_j = reported.energy_is (record { run = 11; slot = 12; tail = 13; waking = 4 }) 23000 16 9000 refl
+energy_of_j : (energy_of (record { run = 11; slot = 12; tail = 13; waking = 4 }) (powers 23000 16 9000) ≡ Ok 289400) × (289400 ≡ 11 * 23000 + 12 * 16 + 13 * 16 + 4 * 9000)
+energy_of_j = (refl, reported.energy_is (record { run = 11; slot = 12; tail = 13; waking = 4 }) (powers 23000 16 9000) 289400 refl)
 
 -- DEMAND 2 is used. Every task of the house table has a window, and the first row of its verdict is right.
 house_windows : (i : ℕ) → i < 4 → HasWindow (rules_of house.table) i
@@ -155,7 +151,7 @@ house_judged : Judged (rules_of house.table) 4 (admit_of house.table)
 house_judged = reported.figures_are_the_defined_ones house.table 4 house_startable.sound
 
 -- Tick 0 is a slot tick, since 0 is below 8.
-house_sleeps : (step_of (history house []).state (history house []).tally).answer ≡ ticked.Tick Slot
+house_sleeps : (step_of (history house []).state (history house []).tally).answer ≡ Ok Slot
 unfolding house bytes_of word_at record_at first_from ask_records ask_order ask_sleep read_of read_given folded Each
 house_sleeps =
     (demand_2.each_tick_is_the_defined_one (history house []).state (history house []).tally (rules_are_kept house [] house_starts tt) (omega arith)).slot_exactly.1 (omega arith)
@@ -176,7 +172,7 @@ released_own : Each Own (release 1 2 ∷ eight)
 unfolding Each eight
 released_own = (tt, eight_own)
 
-house_runs : (step_of (history house (release 1 2 ∷ eight)).state (history house (release 1 2 ∷ eight)).tally).answer ≡ ticked.Tick (Run 1)
+house_runs : (step_of (history house (release 1 2 ∷ eight)).state (history house (release 1 2 ∷ eight)).tally).answer ≡ Ok (Run 1)
 unfolding eight house bytes_of word_at record_at first_from ask_records ask_order ask_sleep read_of read_given ceil ready every record_in period_before state_fits entries_of step_of next folded release_time ask_demand ask_task may_release release_answer
 house_runs =
     ((demand_2.each_tick_is_the_defined_one (history house (release 1 2 ∷ eight)).state (history house (release 1 2 ∷ eight)).tally
@@ -209,16 +205,16 @@ figure_1_hands_back = start_hands_back figure_1 3 figure_1_startable
 
 -- No call on the house table gets 6.
 house_no_6 : (calls : List Call) (task demand : ℕ) → Each Own calls
-    → ((release_of (history house calls).state task demand).answer ≡ answer.Refused Unfit → ⊥)
-    × ((step_of (history house calls).state (history house calls).tally).answer ≡ ticked.Refused Unfit → ⊥)
+    → ((release_of (history house calls).state task demand).answer ≡ Err Unfit → ⊥)
+    × ((step_of (history house calls).state (history house calls).tally).answer ≡ Err Unfit → ⊥)
 house_no_6 calls task demand own = (no_release_gets_6 house calls task demand house_starts, no_step_gets_6 house calls house_starts own)
 
 -- At tick 8 a step of the house table answers a tick.
-house_answers : (step_of (history house eight).state (history house eight).tally).answer ≡ ticked.Tick (tick_of (history house eight).state)
+house_answers : (step_of (history house eight).state (history house eight).tally).answer ≡ Ok (tick_of (history house eight).state)
 house_answers = every_step_answers_a_tick house eight house_starts eight_own (omega (arith, house_tail.1))
 
 -- At tick 8 a release of task 2 is accepted with a demand of 3.
-house_accepts : (release_of (history house eight).state 2 3).answer ≡ answer.Accepted
+house_accepts : (release_of (history house eight).state 2 3).answer ≡ Ok tt
 unfolding eight house bytes_of word_at record_at first_from ask_records ask_order ask_sleep read_of read_given ceil ready every record_in period_before state_fits entries_of step_of next folded
 house_accepts = (release_is_accepted (history house eight).state 2 3).1 (record {
   lawful_state = state_keeps_its_rules house eight house_starts;
@@ -266,12 +262,12 @@ house_figure_enough = rw (house_figures.1, house_figures.2) at (figure_is_enough
 -- leaves at work at 16, its period after its release at 1.
 figure_1_fails : FirstFailing figure_1 3
 figure_1_fails = (demand_3 figure_1 3).not_admitted_is_late figure_1_startable.sound (λ a.
-    let w : Refused (NoWindow 2 1) ≡ Admitted 3 = sym figure_1_refused ∙ a in
+    let w : Err (NoWindow 2 1) ≡ Ok 3 = sym figure_1_refused ∙ a in
     let z : ◌≡◌ {A = ℕ} 0 1 = cc in let y : ⊥ = omega arith in y)
 
 figure_1_fails_at : figure_1_fails.place ≡ 1
 figure_1_fails_at =
-    let w : Refused (NoWindow (figure_1_fails.place + 1) figure_1_fails.rounds) ≡ Refused (NoWindow 2 1) = sym figure_1_fails.named ∙ figure_1_refused in
+    let w : Err (NoWindow (figure_1_fails.place + 1) figure_1_fails.rounds) ≡ Err (NoWindow 2 1) = sym figure_1_fails.named ∙ figure_1_refused in
     let up : figure_1_fails.place + 1 ≡ 2 = cc in
     omega arith
 
@@ -286,7 +282,7 @@ house_slot = refl
 
 -- After the tail tick 8 no task runs before 28, whatever comes in between.
 house_rests : (k : ℕ) (u : Tally) (between : List Call)
-    → (step_of (after (next (history house eight) step) between).state u).answer ≡ ticked.Tick (Run k)
+    → (step_of (after (next (history house eight) step) between).state u).answer ≡ Ok (Run k)
     → 28 ≤ (after (next (history house eight) step) between).state.clock
 unfolding next
 house_rests k u between run =
@@ -303,7 +299,7 @@ to_28 : List Call
 to_28 = step ∷ step ∷ step ∷ step ∷ step ∷ step ∷ step ∷ step ∷ step ∷ step ∷ step ∷ release 1 2 ∷ eight
 
 house_runs_at_28 : ((after (next (history house eight) step) to_28).state.clock ≡ 28)
-    × ((step_of (after (next (history house eight) step) to_28).state (after (next (history house eight) step) to_28).tally).answer ≡ ticked.Tick (Run 1))
+    × ((step_of (after (next (history house eight) step) to_28).state (after (next (history house eight) step) to_28).tally).answer ≡ Ok (Run 1))
 unfolding to_28 eight house bytes_of word_at record_at first_from ask_records ask_order ask_sleep read_of read_given ceil ready every record_in period_before state_fits entries_of step_of next folded release_time ask_demand ask_task may_release release_answer
 house_runs_at_28 = (refl, refl)
 
@@ -313,7 +309,7 @@ house_rests_till_28 =
 
 -- The same of the state alone, taken as if it had been handed in.
 house_state_rests : (k : ℕ) (u : Tally) (p : Past) (between : List Call) → p.state ≡ (step_of (history house eight).state (history house eight).tally).state
-    → (step_of (after p between).state u).answer ≡ ticked.Tick (Run k)
+    → (step_of (after p between).state u).answer ≡ Ok (Run k)
     → boundary (history house eight).state.sleep.period (history house eight).state.clock + (history house eight).state.sleep.work ≤ (after p between).state.clock
 house_state_rests k u p between = any_state_rests (history house eight).state (history house eight).tally u k p between (rw house_sound (history_kept house 4 eight house_sound).sized) house_tail.0
 

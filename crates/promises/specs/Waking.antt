@@ -1,24 +1,22 @@
 -- WAKING COSTS MORE THAN SLEEPING stands here on one page: the record `Waking` has the user's words, each above the
 -- fields that say it, and `waking` shows that all of it holds. V is the `waking` of a state, and of what a start is
 -- given; S and H are the work and the period of the sleep record.
-use Rattle.std.specs.Prelude.{ℕ, ◌+◌, ◌-◌, ◌*◌, ◌%◌, ◌≤◌, ◌<◌, ◌≡◌, refl, ◌↔◌, List}
+use Rattle.std.specs.Prelude.{ℕ, ◌+◌, ◌-◌, ◌*◌, ◌%◌, ◌≤◌, ◌<◌, ◌≡◌, refl, ◌↔◌, List, Ok, Err}
 use Rattle.std.proofs.Common.{ap, sym, subst, ◌∙◌, inr, ⊎_elim, arith, add-mul, le-leb, lt-ltb}
 use Rattle.std.proofs.lemmas.Bool.{lt-leb}
 use Rattle.base.specs.List.{Each}
 use Rattle.table.specs.declared.Refusal.{Refusal}
 use Rattle.table.specs.declared.Refusal.TheVariants.{Unfit, Power, LongWaking}
-use Rattle.table.specs.declared.Reading.TheVariants as read
 use Rattle.table.specs.Bytes.{record_at}
 use Rattle.table.specs.Rules.{SoundTable}
 use Rattle.table.specs.Sound.{read_of}
 use Rattle.table.proofs.LowestLaws.{number}
 use Rattle.decisions.specs.declared.Tally.{Tally}
 use Rattle.decisions.specs.declared.Tick.TheVariants.{Run, Slot, Tail}
-use Rattle.decisions.specs.declared.Answer.TheVariants.{Accepted, Refused}
 use Rattle.decisions.specs.Fits.{clock_end, total}
-use Rattle.decisions.specs.Energies.{power_most, energy_in, energy_of}
+use Rattle.decisions.specs.declared.Powers.{Powers}
+use Rattle.decisions.specs.Energies.{power_most, powers, energy_in, energy_of}
 use Rattle.scheduler.specs.declared.State.{State}
-use Rattle.scheduler.specs.declared.Ticked.TheVariants as ticked
 use Rattle.scheduler.specs.Starts.{Given, read_given, fresh_state, start_of, IsStarted}
 use Rattle.scheduler.specs.States.{with_waking}
 use Rattle.scheduler.specs.Lawful.{LawfulState}
@@ -42,13 +40,13 @@ given table v = record { table = table; waking = v }
 
 -- A step counts its tick: a run, a tail tick, and a slot tick by t mod H.
 pub record CountsAre (s : State) (t : Tally) : Type 0 where
-  pub run_counts : (k : ℕ) → (step_of s t).answer ≡ ticked.Tick (Run k)
+  pub run_counts : (k : ℕ) → (step_of s t).answer ≡ Ok (Run k)
       → (step_of s t).tally ≡ record { run = t.run + 1; slot = t.slot; tail = t.tail; waking = t.waking }
-  pub tail_counts : (step_of s t).answer ≡ ticked.Tick Tail
+  pub tail_counts : (step_of s t).answer ≡ Ok Tail
       → (step_of s t).tally ≡ record { run = t.run; slot = t.slot; tail = t.tail + 1; waking = t.waking }
-  pub waking_counts : (step_of s t).answer ≡ ticked.Tick Slot → s.sleep.work - s.waking ≤ s.clock % s.sleep.period
+  pub waking_counts : (step_of s t).answer ≡ Ok Slot → s.sleep.work - s.waking ≤ s.clock % s.sleep.period
       → (step_of s t).tally ≡ record { run = t.run; slot = t.slot; tail = t.tail; waking = t.waking + 1 }
-  pub slot_counts : (step_of s t).answer ≡ ticked.Tick Slot → s.clock % s.sleep.period < s.sleep.work - s.waking
+  pub slot_counts : (step_of s t).answer ≡ Ok Slot → s.clock % s.sleep.period < s.sleep.work - s.waking
       → (step_of s t).tally ≡ record { run = t.run; slot = t.slot + 1; tail = t.tail; waking = t.waking }
 
 -- V changes nothing else: two histories with the same calls, on a table started with V = v and with V = w, agree in all
@@ -66,11 +64,11 @@ pub record NothingElse (table : List ℕ) (v w : ℕ) (calls : List Call) : Type
 
 pub record Waking : Type 0 where
   -- "We want a waking length V, from 0 to S,
-  pub fourteen_exactly : (g : Given) → ((start_of g).answer ≡ Refused LongWaking) ↔ (((n : ℕ) × SoundTable g.table n) × ((record_at g.table 0).work < g.waking))
+  pub fourteen_exactly : (g : Given) → ((start_of g).answer ≡ Err LongWaking) ↔ (((n : ℕ) × SoundTable g.table n) × ((record_at g.table 0).work < g.waking))
   -- and a waking power booked for its ticks." Where that is the sleep power, the split changes no energy.
-  pub booked_at_its_power : (t : Tally) (run sleep waking : ℕ) → (energy_of t run sleep waking).answer ≡ Accepted
-      → (energy_of t run sleep waking).nanojoules ≡ t.run * run + t.slot * sleep + t.tail * sleep + t.waking * waking
-  pub same_power_same_energy : (t u : Tally) (run sleep : ℕ) → SplitAlone t u → energy_of u run sleep sleep ≡ energy_of t run sleep sleep
+  pub booked_at_its_power : (t : Tally) (ps : Powers) (nanojoules : ℕ) → energy_of t ps ≡ Ok nanojoules
+      → nanojoules ≡ t.run * ps.run + t.slot * ps.sleep + t.tail * ps.sleep + t.waking * ps.waking
+  pub same_power_same_energy : (t u : Tally) (run sleep : ℕ) → SplitAlone t u → energy_of u (powers run sleep sleep) ≡ energy_of t (powers run sleep sleep)
   -- "Slot ticks with t mod H at least S − V count as waking, not as slot;" So every whole period adds V to the one count
   -- and S − V to the other: at a boundary, k periods on.
   pub each_tick_is_counted : (s : State) (t : Tally) → CountsAre s t
@@ -88,19 +86,19 @@ pub record Waking : Type 0 where
   -- "V is given at the start and kept in the state."
   pub kept_in_the_state : (g : Given) (calls : List Call) → IsStarted g → (history g calls).state.waking ≡ g.waking
   -- "Refusals: 14, V above S (record 0), after 4 at a start;
-  pub after_four : (g : Given) (r : Refusal) → read_of g.table ≡ read.Refused r → (start_of g).answer ≡ Refused r
+  pub after_four : (g : Given) (r : Refusal) → read_of g.table ≡ Err r → (start_of g).answer ≡ Err r
   -- 6 in a state;
   pub six_in_a_state : (s : State) (t : Tally) (task demand : ℕ) → s.sleep.work < s.waking
-      → ((release_of s task demand).answer ≡ Refused Unfit) × ((step_of s t).answer ≡ ticked.Refused Unfit)
+      → ((release_of s task demand).answer ≡ Err Unfit) × ((step_of s t).answer ≡ Err Unfit)
   -- 6 reads four counts;
-  pub six_of_a_step : (s : State) (t : Tally) → (t.run + t.slot + t.tail + t.waking ≡ s.clock → ⊥) → (step_of s t).answer ≡ ticked.Refused Unfit
-  pub six_of_a_reading : (t : Tally) (run sleep waking : ℕ) → clock_end < t.run + t.slot + t.tail + t.waking → (energy_of t run sleep waking).answer ≡ Refused Unfit
+  pub six_of_a_step : (s : State) (t : Tally) → (t.run + t.slot + t.tail + t.waking ≡ s.clock → ⊥) → (step_of s t).answer ≡ Err Unfit
+  pub six_of_a_reading : (t : Tally) (ps : Powers) → clock_end < t.run + t.slot + t.tail + t.waking → energy_of t ps ≡ Err Unfit
   -- the waking power joins 13."
-  pub joins_thirteen : (t : Tally) (run sleep waking : ℕ) → t.run + t.slot + t.tail + t.waking ≤ clock_end → power_most < waking
-      → (energy_of t run sleep waking).answer ≡ Refused Power
+  pub joins_thirteen : (t : Tally) (ps : Powers) → t.run + t.slot + t.tail + t.waking ≤ clock_end → power_most < ps.waking
+      → energy_of t ps ≡ Err Power
 
 -- Two histories on one table with the same calls go the same way.
-module _ (table : List ℕ) (v w n : ℕ) (calls : List Call) (e : read_given (given table v) ≡ read.Sound n) (f : read_given (given table w) ≡ read.Sound n) where
+module _ (table : List ℕ) (v w n : ℕ) (calls : List Call) (e : read_given (given table v) ≡ Ok n) (f : read_given (given table w) ≡ Ok n) where
   abbrev p : Past
   p = after (begun (fresh_state (given table v) n)) calls
 
@@ -143,7 +141,7 @@ alike : (table : List ℕ) (v w : ℕ) (calls : List Call) → IsStarted (given 
 alike table v w calls a b =
     let r = started_reads (given table v) a in
     let s = started_reads (given table w) b in
-    let x : read.Sound s.0 ≡ read.Sound r.0 = sym (given_says (given table w) s.0 s.1).0 ∙ (given_says (given table v) r.0 r.1).0 in
+    let x : Ok s.0 ≡ Ok r.0 = sym (given_says (given table w) s.0 s.1).0 ∙ (given_says (given table v) r.0 r.1).0 in
     let same : s.0 ≡ r.0 = cc in
     go_alike table v w r.0 calls r.1 (rw same at s.1)
 
@@ -161,9 +159,9 @@ zero_starts g ok =
     rw (startable_given (given g.table 0) r.0 (record { sound = (given_startable g r.0 r.1).sound; waking_fits = omega arith }))
 
 -- The energy of the slots' ticks does not depend on the split where both powers are the same.
-same_energy : (t u : Tally) (run sleep : ℕ) → SplitAlone t u → energy_of u run sleep sleep ≡ energy_of t run sleep sleep
+same_energy : (t u : Tally) (run sleep : ℕ) → SplitAlone t u → energy_of u (powers run sleep sleep) ≡ energy_of t (powers run sleep sleep)
 same_energy t u run sleep S =
-    let sums : energy_in u run sleep sleep ≡ energy_in t run sleep sleep = omega (
+    let sums : energy_in u (powers run sleep sleep) ≡ energy_in t (powers run sleep sleep) = omega (
       arith,
       add-mul u.slot u.waking sleep,
       add-mul t.slot t.waking sleep,
@@ -174,8 +172,8 @@ same_energy t u run sleep S =
     rw (total_same t u S, sums)
 
 -- A waking power that is too strong is refused with 13.
-thirteen : (t : Tally) (run sleep waking : ℕ) → total t ≤ clock_end → power_most < waking → (energy_of t run sleep waking).answer ≡ Refused Power
-thirteen t run sleep waking few strong = (laws.energy_refused_exactly t run sleep waking Power).1 (record {
+thirteen : (t : Tally) (ps : Powers) → total t ≤ clock_end → power_most < ps.waking → energy_of t ps ≡ Err Power
+thirteen t ps few strong = (laws.energy_refused_exactly t ps Power).1 (record {
   applies = inr (refl, inr (inr strong));
   none_lower = λ q lower a. ⊎_elim (λ u. omega (arith, u.1)) (λ u. omega (arith, ap number u.0)) a;
 })
@@ -209,6 +207,6 @@ waking = record {
     (step_gets_6 s t).1 (λ K. omega (arith, K.lawful_state.waking_fits)),
   );
   six_of_a_step = λ s t not. (step_gets_6 s t).1 (λ K. not K.counted);
-  six_of_a_reading = λ t run sleep waking l. rw (lt-ltb _ _ l);
+  six_of_a_reading = λ t ps l. rw (lt-ltb _ _ l);
   joins_thirteen = thirteen;
 }

@@ -1,5 +1,6 @@
 -- A call's answer is the lowest-numbered refusal that applies, and accepted where none does: its tests are a chain
 -- (table/proofs/LowestLaws.antt), and each is shown to tell whether its own refusal applies.
+use Rattle.std.specs.Prelude.{Result, Ok, Err, Option, Some, None}
 use Prim.Native.Nat.{ℕ, ◌+◌, ◌-◌, ◌%◌, ◌≤◌, ◌<◌}
 use mathlib.Core.Path.{◌≡◌, refl, ap, subst, sym, ◌∙◌}
 use mathlib.Core.Logic.{◌↔◌, ◌≢◌, ◌⊎◌, inl, inr, ⊎_elim}
@@ -11,7 +12,6 @@ use Rattle.base.proofs.Split.{by_lt, by_eq}
 use Rattle.base.proofs.ChoiceLaws.{both}
 use Rattle.table.specs.declared.Refusal.{Refusal}
 use Rattle.table.specs.declared.Refusal.TheVariants as refusal
-use Rattle.table.specs.declared.Reading.TheVariants as read
 use Rattle.table.specs.Refusals.{start_gives}
 use Rattle.table.specs.Times.{release_time}
 use Rattle.table.specs.Bytes.{record_at}
@@ -23,15 +23,10 @@ use Rattle.table.proofs.LowestLaws.{not_both, fails, holds, number, lowest_of_fi
 use Rattle.table.proofs.ReadingLaws.{table_numbers, reading_refused_exactly, sound_none_applies}
 use Rattle.decisions.specs.declared.Job.{Job}
 use Rattle.decisions.specs.declared.Job.TheVariants.{Resting, Working}
-use Rattle.decisions.specs.declared.Last.{Last}
-use Rattle.decisions.specs.declared.Last.TheVariants.{Never, At}
 use Rattle.scheduler.specs.declared.State.{State}
 use Rattle.decisions.specs.declared.Tally.{Tally}
 use Rattle.decisions.specs.declared.Tick.{Tick}
-use Rattle.scheduler.specs.declared.Ticked.TheVariants as ticked
 use Rattle.scheduler.specs.declared.Moved.{Moved}
-use Rattle.decisions.specs.declared.Answer.{Answer}
-use Rattle.decisions.specs.declared.Answer.TheVariants.{Accepted, Refused}
 use Rattle.decisions.specs.Fits.{clock_end, total, tally_fits}
 use Rattle.scheduler.specs.States.{head_of, entry_in, state_fits}
 use Rattle.scheduler.specs.Lawful.{LawfulState}
@@ -39,6 +34,7 @@ use Rattle.scheduler.specs.Starts.{Given, no_state, start_of}
 use Rattle.decisions.specs.Asks.{working, early, ask_spacing, ask_time, ask_demand, ask_task, may_release, may_step}
 use Rattle.scheduler.specs.Releases.{release_answer, release_of}
 use Rattle.scheduler.specs.Steps.{tick_of, step_from, step_of}
+use Rattle.decisions.specs.declared.Powers.{Powers}
 use Rattle.decisions.specs.Energies.{power_most, energy_in, energy_of}
 use Rattle.scheduler.specs.Applies.{StartApplies, Startable, ReleaseApplies, Releasable, RulesKept, StepApplies, EnergyApplies}
 use Rattle.scheduler.specs.Fresh.{Fresh}
@@ -59,23 +55,23 @@ due k =
     (cond (eqb k 11) refusal.Working refusal.Early)))))
 
 -- `Says` is what an answer says of the refusals that apply: that its own is the lowest, or that none does.
-abbrev Says : (Refusal → Type 0) → Answer → Type 0
-Says Applies Accepted = (q : Refusal) → Applies q → ⊥
-Says Applies (Refused r) = Lowest Applies r
+abbrev Says : (Refusal → Type 0) → Result (Unit {0}) Refusal → Type 0
+Says Applies (Ok tt) = (q : Refusal) → Applies q → ⊥
+Says Applies (Err r) = Lowest Applies r
 
 -- `chain` is the chain of a call that refuses with numbers from 6 on.
-abbrev chain : (Applies : Refusal → Type 0) (end : ℕ) → ((q : Refusal) → Applies q → (6 ≤ number q) × (number q < end) × (due (number q) ≡ q)) → Chain Applies Answer
-chain Applies end known = record { low = 6; end = end; due = due; known = known; refused = Refused; Says = Says Applies; says = λ r L. L }
+abbrev chain : (Applies : Refusal → Type 0) (end : ℕ) → ((q : Refusal) → Applies q → (6 ≤ number q) × (number q < end) × (due (number q) ≡ q)) → Chain Applies (Result (Unit {0}) Refusal)
+chain Applies end known = record { low = 6; end = end; due = due; known = known; refused = Err; Says = Says Applies; says = λ r L. L }
 
 -- A call is refused exactly with the lowest refusal that applies.
-refused_exactly : {Applies : Refusal → Type 0} (C : Chain Applies Answer) (a : Answer) → Says Applies a → (r : Refusal) → (a ≡ Refused r) ↔ Lowest Applies r
-refused_exactly C Accepted S r = (
+refused_exactly : {Applies : Refusal → Type 0} (C : Chain Applies (Result (Unit {0}) Refusal)) (a : Result (Unit {0}) Refusal) → Says Applies a → (r : Refusal) → (a ≡ Err r) ↔ Lowest Applies r
+refused_exactly C (Ok tt) S r = (
   λ e. let z : ◌≡◌ {A = ℕ} 0 1 = cc in absurd (let y : ⊥ = omega arith in y),
   λ L. absurd (S r L.applies),
 )
-refused_exactly {Applies} C (Refused q) S r = (
+refused_exactly {Applies} C (Err q) S r = (
   λ e. let same : q ≡ r = cc in subst (Lowest Applies) same S,
-  λ L. ap Refused (one_lowest C q r S L),
+  λ L. ap Err (one_lowest C q r S L),
 )
 
 -- Test 6 of a release tells whether the state keeps its rules.
@@ -116,12 +112,12 @@ working_test Resting = (
 working_test (Working a l) = (λ e. (a, l, refl), λ w. refl)
 
 -- Test 12 tells whether the last release is fewer than so many ticks ago.
-early_test : (last : Last) (period clock : ℕ) → (early last period clock ≡ true) ↔ ((a : ℕ) × (last ≡ At a) × (clock < a + period))
-early_test Never period clock = (
+early_test : (last : Option ℕ) (period clock : ℕ) → (early last period clock ≡ true) ↔ ((a : ℕ) × (last ≡ Some a) × (clock < a + period))
+early_test None period clock = (
   λ e. absurd (not_both false e refl),
   λ w. let q = w.1 in let z : ◌≡◌ {A = ℕ} 0 1 = cc in absurd (let y : ⊥ = omega arith in y),
 )
-early_test (At p) period clock = (
+early_test (Some p) period clock = (
   λ e. (p, refl, ltb-true clock (p + period) e),
   λ w. let q = w.1 in let same : p ≡ w.0 = cc in lt-ltb clock (p + period) (rw same w.2),
 )
@@ -143,7 +139,7 @@ release_known s task demand refusal.Early a = (omega arith, omega arith, refl)
 release_known s task demand refusal.Power a = absurd a
 release_known s task demand refusal.LongWaking a = absurd a
 
-abbrev release_chain : (s : State) (task demand : ℕ) → Chain (ReleaseApplies s task demand) Answer
+abbrev release_chain : (s : State) (task demand : ℕ) → Chain (ReleaseApplies s task demand) (Result (Unit {0}) Refusal)
 release_chain s task demand = chain (ReleaseApplies s task demand) 13 (release_known s task demand)
 
 -- A RELEASE'S ANSWER says which refusals apply: its tests stand in their order, and each is told by its fact.
@@ -159,28 +155,28 @@ release_says s task demand =
     unless C refusal.Demand refl (leb 1 demand && leb demand x.task.work) (ask_time h x task) (fails _ _ (between_test 1 demand x.task.work)) b8 (λ e9 b9.
     unless C refusal.OffBoundary refl (release_time s.sleep.period (task - 1) s.clock) (ask_spacing s.clock x)
     (time_test s.sleep.period task s.clock ((between_test 1 task s.n).0 e8).0) b9 (λ e10 b10.
-    when C refusal.Working refl (working x.job) (cond (early x.last x.task.period s.clock) (Refused refusal.Early) Accepted)
+    when C refusal.Working refl (working x.job) (cond (early x.last x.task.period s.clock) (Err refusal.Early) (Ok tt))
     (working_test x.job) b10 (λ e11 b11.
-    when C refusal.Early refl (early x.last x.task.period s.clock) Accepted (early_test x.last x.task.period s.clock) b11 (λ e12 b12.
+    when C refusal.Early refl (early x.last x.task.period s.clock) (Ok tt) (early_test x.last x.task.period s.clock) b11 (λ e12 b12.
     past C b12)))))))
 
 -- A RELEASE IS REFUSED exactly with the lowest number that applies.
-pub release_refused_exactly : (s : State) (task demand : ℕ) (r : Refusal) → ((release_of s task demand).answer ≡ Refused r) ↔ Lowest (ReleaseApplies s task demand) r
+pub release_refused_exactly : (s : State) (task demand : ℕ) (r : Refusal) → ((release_of s task demand).answer ≡ Err r) ↔ Lowest (ReleaseApplies s task demand) r
 release_refused_exactly s task demand r =
     rw (release_answer_lem s task demand)
     (refused_exactly (release_chain s task demand) (release_answer s task demand) (release_says s task demand) r)
 
 -- A release is refused with 6 exactly where the state breaks a rule.
-pub release_six_exactly : (s : State) (task demand : ℕ) → ((release_of s task demand).answer ≡ Refused refusal.Unfit) ↔ (LawfulState s → ⊥)
+pub release_six_exactly : (s : State) (task demand : ℕ) → ((release_of s task demand).answer ≡ Err refusal.Unfit) ↔ (LawfulState s → ⊥)
 release_six_exactly s task demand =
     let E = release_refused_exactly s task demand refusal.Unfit in
     (λ e. (E.0 e).applies, λ n. E.1 (record { applies = n; none_lower = first (release_chain s task demand) }))
 
 -- A RELEASE IS ACCEPTED exactly where no refusal applies, which is where the rules hold.
-pub release_accepted_exactly : (s : State) (task demand : ℕ) → ((release_of s task demand).answer ≡ Accepted) ↔ Releasable s task demand
+pub release_accepted_exactly : (s : State) (task demand : ℕ) → ((release_of s task demand).answer ≡ Ok tt) ↔ Releasable s task demand
 release_accepted_exactly s task demand = rw (release_answer_lem s task demand) (to, from)
   where
-    to : release_answer s task demand ≡ Accepted → Releasable s task demand
+    to : release_answer s task demand ≡ Ok tt → Releasable s task demand
     to e =
         let F = accepted_says s task demand e in
         record {
@@ -195,7 +191,7 @@ release_accepted_exactly s task demand = rw (release_answer_lem s task demand) (
           spaced = F.spaced;
         }
 
-    from : Releasable s task demand → release_answer s task demand ≡ Accepted
+    from : Releasable s task demand → release_answer s task demand ≡ Ok tt
     from F = says_accepted s task demand (record {
       lawful_state = F.lawful_state;
       before_end = F.before_end;
@@ -225,7 +221,7 @@ step_known s t refusal.Early a = absurd a
 step_known s t refusal.Power a = absurd a
 step_known s t refusal.LongWaking a = absurd a
 
-abbrev step_chain : (s : State) (t : Tally) → Chain (StepApplies s t) Answer
+abbrev step_chain : (s : State) (t : Tally) → Chain (StepApplies s t) (Result (Unit {0}) Refusal)
 step_chain s t = chain (StepApplies s t) 8 (step_known s t)
 
 -- The first test of a step tells whether state and tally keep their rules.
@@ -238,31 +234,31 @@ kept_test s t = (
 step_says : (s : State) (t : Tally) → Says (StepApplies s t) (may_step (state_fits s) t s.clock)
 step_says s t =
     let C = step_chain s t in
-    unless C refusal.Unfit refl (state_fits s && tally_fits t s.clock) (cond (leb clock_end s.clock) (Refused refusal.ClockEnd) Accepted)
+    unless C refusal.Unfit refl (state_fits s && tally_fits t s.clock) (cond (leb clock_end s.clock) (Err refusal.ClockEnd) (Ok tt))
     (fails _ _ (kept_test s t)) (first C) (λ e6 b6.
-    when C refusal.ClockEnd refl (leb clock_end s.clock) Accepted (end_test s.clock ((kept_test s t).0 e6).lawful_state.in_time) b6 (λ e7 b7.
+    when C refusal.ClockEnd refl (leb clock_end s.clock) (Ok tt) (end_test s.clock ((kept_test s t).0 e6).lawful_state.in_time) b6 (λ e7 b7.
     past C b7))
 
 -- A STEP IS REFUSED exactly with the lowest number that applies.
-pub step_refused_exactly : (s : State) (t : Tally) (r : Refusal) → ((step_of s t).answer ≡ ticked.Refused r) ↔ Lowest (StepApplies s t) r
+pub step_refused_exactly : (s : State) (t : Tally) (r : Refusal) → ((step_of s t).answer ≡ Err r) ↔ Lowest (StepApplies s t) r
 unfolding step_of
 step_refused_exactly s t r = (λ e. may.0 (to (may_step (state_fits s) t s.clock) e), λ L. rw (may.1 L))
   where
-    may : (may_step (state_fits s) t s.clock ≡ Refused r) ↔ Lowest (StepApplies s t) r
+    may : (may_step (state_fits s) t s.clock ≡ Err r) ↔ Lowest (StepApplies s t) r
     may = refused_exactly (step_chain s t) (may_step (state_fits s) t s.clock) (step_says s t) r
 
-    to : (a : Answer) → (step_from s t a).answer ≡ ticked.Refused r → a ≡ Refused r
-    to Accepted e = let z : ◌≡◌ {A = ℕ} 0 1 = cc in absurd (let y : ⊥ = omega arith in y)
-    to (Refused q) e = let same : q ≡ r = cc in ap Refused same
+    to : (a : Result (Unit {0}) Refusal) → (step_from s t a).answer ≡ Err r → a ≡ Err r
+    to (Ok tt) e = let z : ◌≡◌ {A = ℕ} 0 1 = cc in absurd (let y : ⊥ = omega arith in y)
+    to (Err q) e = let same : q ≡ r = cc in ap Err same
 
 -- A step is refused with 6 exactly where state or tally breaks a rule.
-pub step_six_exactly : (s : State) (t : Tally) → ((step_of s t).answer ≡ ticked.Refused refusal.Unfit) ↔ (RulesKept s t → ⊥)
+pub step_six_exactly : (s : State) (t : Tally) → ((step_of s t).answer ≡ Err refusal.Unfit) ↔ (RulesKept s t → ⊥)
 step_six_exactly s t =
     let E = step_refused_exactly s t refusal.Unfit in
     (λ e. (E.0 e).applies, λ n. E.1 (record { applies = n; none_lower = first (step_chain s t) }))
 
 -- A step is refused with 7 exactly where state and tally keep their rules and the clock stands at its end.
-pub step_seven_exactly : (s : State) (t : Tally) → ((step_of s t).answer ≡ ticked.Refused refusal.ClockEnd) ↔ (RulesKept s t × (s.clock ≡ clock_end))
+pub step_seven_exactly : (s : State) (t : Tally) → ((step_of s t).answer ≡ Err refusal.ClockEnd) ↔ (RulesKept s t × (s.clock ≡ clock_end))
 step_seven_exactly s t = (
   λ e. (holds _ _ (kept_test s t) ((E.0 e).none_lower refusal.Unfit (omega arith)), (E.0 e).applies),
   λ k. E.1 (record {
@@ -271,38 +267,38 @@ step_seven_exactly s t = (
   }),
 )
   where
-    E : ((step_of s t).answer ≡ ticked.Refused refusal.ClockEnd) ↔ Lowest (StepApplies s t) refusal.ClockEnd
+    E : ((step_of s t).answer ≡ Err refusal.ClockEnd) ↔ Lowest (StepApplies s t) refusal.ClockEnd
     E = step_refused_exactly s t refusal.ClockEnd
 
 -- A STEP MAKES A TICK, its own, exactly where state and tally keep their rules and the clock is before its end.
 pub step_ticks_exactly : (s : State) (t : Tally) (tick : Tick)
-    → ((step_of s t).answer ≡ ticked.Tick tick) ↔ (RulesKept s t × (s.clock < clock_end) × (tick_of s ≡ tick))
-step_ticks_exactly s t tick = (to (step_is s t), λ k. ap {A = Moved} (λ m. m.answer) (step_made s t k.0.lawful_state k.0.counted k.1) ∙ ap ticked.Tick k.2)
+    → ((step_of s t).answer ≡ Ok tick) ↔ (RulesKept s t × (s.clock < clock_end) × (tick_of s ≡ tick))
+step_ticks_exactly s t tick = (to (step_is s t), λ k. ap {A = Moved} (λ m. m.answer) (step_made s t k.0.lawful_state k.0.counted k.1) ∙ ap Ok k.2)
   where
-    to : StepIs s t → (step_of s t).answer ≡ ticked.Tick tick → RulesKept s t × (s.clock < clock_end) × (tick_of s ≡ tick)
+    to : StepIs s t → (step_of s t).answer ≡ Ok tick → RulesKept s t × (s.clock < clock_end) × (tick_of s ≡ tick)
     to (moves m q) e =
-        let w : ticked.Tick (tick_of s) ≡ ticked.Tick tick = sym (ap {A = Moved} (λ m. m.answer) q) ∙ e in
+        let w : Ok (tick_of s) ≡ Ok tick = sym (ap {A = Moved} (λ m. m.answer) q) ∙ e in
         let same : tick_of s ≡ tick = cc in
         (record { lawful_state = fits_says s m.fitting; counted = eqb-true _ _ m.counted }, m.before_end, same)
     to (stays r q) e =
-        let w : ticked.Refused r ≡ ticked.Tick tick = sym (ap {A = Moved} (λ m. m.answer) q) ∙ e in
+        let w : Err r ≡ Ok tick = sym (ap {A = Moved} (λ m. m.answer) q) ∙ e in
         let z : ◌≡◌ {A = ℕ} 0 1 = cc in absurd (let y : ⊥ = omega arith in y)
 
 -- A START IS ACCEPTED exactly where the table is sound and V is at most S.
-pub start_accepted_exactly : (g : Given) → ((start_of g).answer ≡ Accepted) ↔ ((n : ℕ) × Startable g n)
+pub start_accepted_exactly : (g : Given) → ((start_of g).answer ≡ Ok tt) ↔ ((n : ℕ) × Startable g n)
 start_accepted_exactly g = (
   λ e. let r = started_reads g e in (r.0, given_startable g r.0 r.1),
   λ S. rw (startable_given g S.0 S.1),
 )
 
 -- A start is refused exactly with the lowest of 1 to 4 and 14 that applies.
-pub start_refused_exactly : (g : Given) (r : Refusal) → ((start_of g).answer ≡ Refused r) ↔ Lowest (StartApplies g) r
+pub start_refused_exactly : (g : Given) (r : Refusal) → ((start_of g).answer ≡ Err r) ↔ Lowest (StartApplies g) r
 start_refused_exactly g r = (to (start_is g), λ L. from (start_is g) L L.applies)
   where
-    to : StartIs g → (start_of g).answer ≡ Refused r → Lowest (StartApplies g) r
+    to : StartIs g → (start_of g).answer ≡ Err r → Lowest (StartApplies g) r
     to (unsound f q w) e =
         let same : f ≡ r = cc (rw w at e) in
-        let L = (reading_refused_exactly g.table r).0 (q ∙ ap read.Refused same) in
+        let L = (reading_refused_exactly g.table r).0 (q ∙ ap Err same) in
         record {
           applies = inl L.applies;
           none_lower = λ p lower a. ⊎_elim (L.none_lower p lower) (λ u. omega (arith, ap number u.0, table_numbers g.table r L.applies)) a;
@@ -315,24 +311,24 @@ start_refused_exactly g r = (to (start_is g), λ L. from (start_is g) L L.applie
         })
     to (starts n q l w) e = absurd (refused_not r (sym (rw w at e)))
 
-    from : StartIs g → Lowest (StartApplies g) r → StartApplies g r → (start_of g).answer ≡ Refused r
+    from : StartIs g → Lowest (StartApplies g) r → StartApplies g r → (start_of g).answer ≡ Err r
     from (unsound f q w) L (inl a) =
         let same = (reading_refused_exactly g.table r).1 (lowest_of_first L a) in
         let is : f ≡ r = cc in
-        rw w (ap Refused is)
+        rw w (ap Err is)
     from (unsound f q w) L (inr u) =
         let F = (reading_refused_exactly g.table f).0 q in
         absurd (L.none_lower f (omega (arith, ap number u.0, table_numbers g.table f F.applies)) (inl F.applies))
     from (long n q l w) L (inl a) = absurd (sound_none_applies g.table n q r a)
-    from (long n q l w) L (inr u) = rw w (ap Refused (sym u.0))
+    from (long n q l w) L (inr u) = rw w (ap Err (sym u.0))
     from (starts n q l w) L (inl a) = absurd (sound_none_applies g.table n q r a)
     from (starts n q l w) L (inr u) = absurd (let z : ⊥ = omega (arith, u.1) in z)
 
 -- 14 IS GIVEN exactly where the table is sound and V is above S.
-pub fourteen_exactly : (g : Given) → ((start_of g).answer ≡ Refused refusal.LongWaking) ↔ (((n : ℕ) × SoundTable g.table n) × ((record_at g.table 0).work < g.waking))
+pub fourteen_exactly : (g : Given) → ((start_of g).answer ≡ Err refusal.LongWaking) ↔ (((n : ℕ) × SoundTable g.table n) × ((record_at g.table 0).work < g.waking))
 fourteen_exactly g = (to (start_is g), from (start_is g))
   where
-    to : StartIs g → (start_of g).answer ≡ Refused refusal.LongWaking → ((n : ℕ) × SoundTable g.table n) × ((record_at g.table 0).work < g.waking)
+    to : StartIs g → (start_of g).answer ≡ Err refusal.LongWaking → ((n : ℕ) × SoundTable g.table n) × ((record_at g.table 0).work < g.waking)
     to (unsound f q w) e =
         let same : f ≡ refusal.LongWaking = cc (rw w at e) in
         let none : false ≡ true = rw same at (reading_gives_lem g.table f q) in
@@ -340,13 +336,13 @@ fourteen_exactly g = (to (start_is g), from (start_is g))
     to (long n q l w) e = ((n, read_sound g.table n q), l)
     to (starts n q l w) e = absurd (refused_not refusal.LongWaking (sym (rw w at e)))
 
-    from : StartIs g → ((n : ℕ) × SoundTable g.table n) × ((record_at g.table 0).work < g.waking) → (start_of g).answer ≡ Refused refusal.LongWaking
+    from : StartIs g → ((n : ℕ) × SoundTable g.table n) × ((record_at g.table 0).work < g.waking) → (start_of g).answer ≡ Err refusal.LongWaking
     from (unsound f q w) F = absurd (refused_not_sound f F.0.0 (sym q ∙ sound_read g.table F.0.0 F.0.1))
     from (long n q l w) F = rw w
     from (starts n q l w) F = absurd (let z : ⊥ = omega (arith, F.1) in z)
 
 -- A REFUSED START hands back the state of no tasks.
-pub start_refused : (g : Given) (r : Refusal) → (start_of g).answer ≡ Refused r → (start_of g).state ≡ no_state
+pub start_refused : (g : Given) (r : Refusal) → (start_of g).answer ≡ Err r → (start_of g).state ≡ no_state
 start_refused g r e = go (start_is g)
   where
     go : StartIs g → (start_of g).state ≡ no_state
@@ -355,7 +351,7 @@ start_refused g r e = go (start_is g)
     go (starts n q l w) = absurd (refused_not r (sym (rw w at e)))
 
 -- A start gives 1 to 4 and 14 and no other number.
-pub start_gives_only : (g : Given) (r : Refusal) → (start_of g).answer ≡ Refused r → start_gives r ≡ true
+pub start_gives_only : (g : Given) (r : Refusal) → (start_of g).answer ≡ Err r → start_gives r ≡ true
 start_gives_only g r e = ⊎_elim
     (λ a. rw (reading_gives_lem g.table r ((reading_refused_exactly g.table r).1 (lowest_of_first L a))))
     (λ u. rw u.0)
@@ -382,74 +378,70 @@ start_hands_back g n S =
     })
 
 -- No power is too strong where none is above its largest.
-weak_powers : (run sleep waking : ℕ) → run ≤ power_most → sleep ≤ power_most → waking ≤ power_most → (power_most < run) ⊎ (power_most < sleep) ⊎ (power_most < waking) → ⊥
-weak_powers run sleep waking r s w (inl l) = omega arith
-weak_powers run sleep waking r s w (inr (inl l)) = omega arith
-weak_powers run sleep waking r s w (inr (inr l)) = omega arith
+weak_powers : (ps : Powers) → ps.run ≤ power_most → ps.sleep ≤ power_most → ps.waking ≤ power_most → (power_most < ps.run) ⊎ (power_most < ps.sleep) ⊎ (power_most < ps.waking) → ⊥
+weak_powers ps r s w (inl l) = omega arith
+weak_powers ps r s w (inr (inl l)) = omega arith
+weak_powers ps r s w (inr (inr l)) = omega arith
 
 -- An energy reading goes one of three ways: refused with 6, refused with 13, or accepted.
-data EnergyIs (t : Tally) (run sleep waking : ℕ) : Type 0 where
-  too_long : clock_end < total t → (energy_of t run sleep waking).answer ≡ Refused refusal.Unfit → EnergyIs t run sleep waking
-  too_strong : total t ≤ clock_end → (power_most < run) ⊎ (power_most < sleep) ⊎ (power_most < waking) → (energy_of t run sleep waking).answer ≡ Refused refusal.Power → EnergyIs t run sleep waking
-  reads : total t ≤ clock_end → run ≤ power_most → sleep ≤ power_most → waking ≤ power_most → (energy_of t run sleep waking).answer ≡ Accepted → EnergyIs t run sleep waking
+data EnergyIs (t : Tally) (ps : Powers) : Type 0 where
+  too_long : clock_end < total t → energy_of t ps ≡ Err refusal.Unfit → EnergyIs t ps
+  too_strong : total t ≤ clock_end → (power_most < ps.run) ⊎ (power_most < ps.sleep) ⊎ (power_most < ps.waking) → energy_of t ps ≡ Err refusal.Power → EnergyIs t ps
+  reads : total t ≤ clock_end → ps.run ≤ power_most → ps.sleep ≤ power_most → ps.waking ≤ power_most → energy_of t ps ≡ Ok (energy_in t ps) → EnergyIs t ps
 
-energy_is : (t : Tally) (run sleep waking : ℕ) → EnergyIs t run sleep waking
-energy_is t run sleep waking = by_lt clock_end (total t) (EnergyIs t run sleep waking)
+energy_is : (t : Tally) (ps : Powers) → EnergyIs t ps
+energy_is t ps = by_lt clock_end (total t) (EnergyIs t ps)
     (λ l. too_long l (rw (lt-ltb _ _ l)))
-    (λ few. by_lt power_most run (EnergyIs t run sleep waking)
+    (λ few. by_lt power_most ps.run (EnergyIs t ps)
     (λ l. too_strong few (inl l) (rw (le-ltb _ _ few, lt-ltb _ _ l)))
-    (λ low. by_lt power_most sleep (EnergyIs t run sleep waking)
+    (λ low. by_lt power_most ps.sleep (EnergyIs t ps)
     (λ l. too_strong few (inr (inl l)) (rw (le-ltb _ _ few, le-ltb _ _ low, lt-ltb _ _ l)))
-    (λ weak. by_lt power_most waking (EnergyIs t run sleep waking)
+    (λ weak. by_lt power_most ps.waking (EnergyIs t ps)
     (λ l. too_strong few (inr (inr l)) (rw (le-ltb _ _ few, le-ltb _ _ low, le-ltb _ _ weak, lt-ltb _ _ l)))
     (λ faint. reads few low weak faint (rw (le-ltb _ _ few, le-ltb _ _ low, le-ltb _ _ weak, le-ltb _ _ faint))))))
 
 -- AN ENERGY READING IS REFUSED exactly with the lowest number that applies.
-pub energy_refused_exactly : (t : Tally) (run sleep waking : ℕ) (r : Refusal) → ((energy_of t run sleep waking).answer ≡ Refused r) ↔ Lowest (EnergyApplies t run sleep waking) r
-energy_refused_exactly t run sleep waking r = (to (energy_is t run sleep waking), λ L. from (energy_is t run sleep waking) L L.applies)
+pub energy_refused_exactly : (t : Tally) (ps : Powers) (r : Refusal) → (energy_of t ps ≡ Err r) ↔ Lowest (EnergyApplies t ps) r
+energy_refused_exactly t ps r = (to (energy_is t ps), λ L. from (energy_is t ps) L L.applies)
   where
-    to : EnergyIs t run sleep waking → (energy_of t run sleep waking).answer ≡ Refused r → Lowest (EnergyApplies t run sleep waking) r
+    to : EnergyIs t ps → energy_of t ps ≡ Err r → Lowest (EnergyApplies t ps) r
     to (too_long l q) e =
-        let w : Refused refusal.Unfit ≡ Refused r = sym q ∙ e in
+        let w : Err refusal.Unfit ≡ Err r = sym q ∙ e in
         let same : refusal.Unfit ≡ r = cc in
-        subst (Lowest (EnergyApplies t run sleep waking)) same (record {
+        subst (Lowest (EnergyApplies t ps)) same (record {
           applies = inl (refl, l);
           none_lower = λ p lower a. ⊎_elim (λ u. omega (arith, ap number u.0)) (λ u. omega (arith, ap number u.0)) a;
         })
     to (too_strong few p q) e =
-        let w : Refused refusal.Power ≡ Refused r = sym q ∙ e in
+        let w : Err refusal.Power ≡ Err r = sym q ∙ e in
         let same : refusal.Power ≡ r = cc in
-        subst (Lowest (EnergyApplies t run sleep waking)) same (record {
+        subst (Lowest (EnergyApplies t ps)) same (record {
           applies = inr (refl, p);
           none_lower = λ p lower a. ⊎_elim (λ u. omega (arith, u.1)) (λ u. omega (arith, ap number u.0)) a;
         })
     to (reads few r s w q) e = let z : ◌≡◌ {A = ℕ} 0 1 = cc in absurd (let y : ⊥ = omega arith in y)
 
-    from : EnergyIs t run sleep waking → Lowest (EnergyApplies t run sleep waking) r → EnergyApplies t run sleep waking r → (energy_of t run sleep waking).answer ≡ Refused r
-    from (too_long l q) L (inl u) = q ∙ ap Refused (sym u.0)
+    from : EnergyIs t ps → Lowest (EnergyApplies t ps) r → EnergyApplies t ps r → energy_of t ps ≡ Err r
+    from (too_long l q) L (inl u) = q ∙ ap Err (sym u.0)
     from (too_long l q) L (inr u) = absurd (L.none_lower refusal.Unfit (omega (arith, ap number u.0)) (inl (refl, l)))
     from (too_strong few p q) L (inl u) = absurd (let z : ⊥ = omega (arith, u.1) in z)
-    from (too_strong few p q) L (inr u) = q ∙ ap Refused (sym u.0)
+    from (too_strong few p q) L (inr u) = q ∙ ap Err (sym u.0)
     from (reads few low weak faint q) L (inl u) = absurd (let z : ⊥ = omega (arith, u.1) in z)
-    from (reads few low weak faint q) L (inr u) = absurd (weak_powers run sleep waking low weak faint u.1)
+    from (reads few low weak faint q) L (inr u) = absurd (weak_powers ps low weak faint u.1)
 
--- AN ENERGY READING IS MADE exactly where neither 6 nor 13 applies.
-pub energy_accepted_exactly : (t : Tally) (run sleep waking : ℕ)
-    → ((energy_of t run sleep waking).answer ≡ Accepted) ↔ ((total t ≤ clock_end) × (run ≤ power_most) × (sleep ≤ power_most) × (waking ≤ power_most))
-energy_accepted_exactly t run sleep waking = (to (energy_is t run sleep waking), from (energy_is t run sleep waking))
+-- AN ENERGY READING IS MADE exactly where neither 6 nor 13 applies, and is the energy of the tally.
+pub energy_accepted_exactly : (t : Tally) (ps : Powers) (nanojoules : ℕ)
+    → (energy_of t ps ≡ Ok nanojoules) ↔ ((total t ≤ clock_end) × (ps.run ≤ power_most) × (ps.sleep ≤ power_most) × (ps.waking ≤ power_most) × (nanojoules ≡ energy_in t ps))
+energy_accepted_exactly t ps nanojoules = (to (energy_is t ps), from (energy_is t ps))
   where
-    to : EnergyIs t run sleep waking → (energy_of t run sleep waking).answer ≡ Accepted → (total t ≤ clock_end) × (run ≤ power_most) × (sleep ≤ power_most) × (waking ≤ power_most)
+    to : EnergyIs t ps → energy_of t ps ≡ Ok nanojoules
+        → (total t ≤ clock_end) × (ps.run ≤ power_most) × (ps.sleep ≤ power_most) × (ps.waking ≤ power_most) × (nanojoules ≡ energy_in t ps)
     to (too_long l q) e = let z : ◌≡◌ {A = ℕ} 0 1 = cc in absurd (let y : ⊥ = omega arith in y)
     to (too_strong few p q) e = let z : ◌≡◌ {A = ℕ} 0 1 = cc in absurd (let y : ⊥ = omega arith in y)
-    to (reads few r s w q) e = (few, r, s, w)
+    to (reads few r s w q) e = (few, r, s, w, cc)
 
-    from : EnergyIs t run sleep waking → (total t ≤ clock_end) × (run ≤ power_most) × (sleep ≤ power_most) × (waking ≤ power_most) → (energy_of t run sleep waking).answer ≡ Accepted
+    from : EnergyIs t ps → (total t ≤ clock_end) × (ps.run ≤ power_most) × (ps.sleep ≤ power_most) × (ps.waking ≤ power_most) × (nanojoules ≡ energy_in t ps)
+        → energy_of t ps ≡ Ok nanojoules
     from (too_long l q) f = absurd (let z : ⊥ = omega (arith, f.0) in z)
-    from (too_strong few p q) f = absurd (weak_powers run sleep waking f.1 f.2 f.3 p)
-    from (reads few r s w q) f = q
-
--- An accepted energy reading is the energy of the tally.
-pub energy_reads : (t : Tally) (run sleep waking : ℕ) → (energy_of t run sleep waking).answer ≡ Accepted → (energy_of t run sleep waking).nanojoules ≡ energy_in t run sleep waking
-energy_reads t run sleep waking e =
-    let f = (energy_accepted_exactly t run sleep waking).0 e in
-    rw (le-ltb _ _ f.0, le-ltb _ _ f.1, le-ltb _ _ f.2, le-ltb _ _ f.3)
+    from (too_strong few p q) f = absurd (weak_powers ps f.1 f.2 f.3 p)
+    from (reads few r s w q) f = q ∙ ap Ok (sym f.4)

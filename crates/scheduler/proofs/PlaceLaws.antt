@@ -1,4 +1,5 @@
 -- Where a state changes in one place, its table stays, and it keeps its rules where the changed place does.
+use Rattle.std.specs.Prelude.{Some}
 use Prim.Native.Nat.{ℕ, zero, suc, ◌≤◌, ◌<◌}
 use mathlib.Core.Path.{◌≡◌, ap, sym, subst, ◌∙◌}
 use mathlib.Core.Logic.{◌≢◌}
@@ -12,7 +13,6 @@ use Rattle.table.specs.Times.{release_time}
 use Rattle.table.specs.Rules.{SoundSet}
 use Rattle.table.proofs.SetLaws.{set_same}
 use Rattle.decisions.specs.declared.Job.TheVariants.{Working}
-use Rattle.decisions.specs.declared.Last.TheVariants.{At}
 use Rattle.decisions.specs.declared.Entry.{Entry}
 use Rattle.scheduler.specs.declared.State.{State}
 use Rattle.decisions.specs.Fits.{clock_end, no_entry}
@@ -50,8 +50,8 @@ pub record Keeps (s s' : State) (j : ℕ) (e : Entry) : Type 0 where
   pub a_task : j < s.n
   pub on_time : s.clock ≤ s'.clock
   pub in_time : s'.clock ≤ clock_end
-  pub last_fits : (a : ℕ) → e.last ≡ At a → (a ≤ s'.clock) × (release_time s.sleep.period j a ≡ true)
-  pub job_fits : (a l : ℕ) → e.job ≡ Working a l → (1 ≤ l) × (l ≤ (entry_in s j).task.work) × (e.last ≡ At a)
+  pub last_fits : (a : ℕ) → e.last ≡ Some a → (a ≤ s'.clock) × (release_time s.sleep.period j a ≡ true)
+  pub job_fits : (a l : ℕ) → e.job ≡ Working a l → (1 ≤ l) × (l ≤ (entry_in s j).task.work) × (e.last ≡ Some a)
 
 -- Where the changed place keeps its rules, the whole state does.
 pub keeps_lawful : (s s' : State) (j : ℕ) (e : Entry) → LawfulState s → Keeps s s' j e → LawfulState s'

@@ -1,4 +1,5 @@
 -- A fresh state of a start holds the table and keeps the rules; the state of a refused start keeps none.
+use Rattle.std.specs.Prelude.{Ok, Err, None}
 use Prim.Native.Nat.{ℕ, zero, suc, ◌+◌, ◌≤◌, ◌<◌}
 use mathlib.Core.Path.{◌≡◌, refl, ap, ◌∙◌}
 use mathlib.Core.List.{List}
@@ -8,16 +9,12 @@ use lib.ListN.{length, get_or, set, length-set, get_or-replicate}
 use lib.Seq.{get_or-set_same, get_or-set_other}
 use Rattle.base.proofs.Split.{by_lt, by_eq}
 use Rattle.table.specs.declared.Refusal.TheVariants as refusal
-use Rattle.table.specs.declared.Reading.TheVariants as read
 use Rattle.table.specs.Bytes.{record_at}
 use Rattle.table.specs.Sound.{places}
 use Rattle.table.proofs.SetLaws.{set_same}
 use Rattle.decisions.specs.declared.Job.TheVariants.{Resting}
-use Rattle.decisions.specs.declared.Last.TheVariants.{Never}
 use Rattle.decisions.specs.declared.Entry.{Entry}
 use Rattle.decisions.specs.declared.Tally.{Tally}
-use Rattle.scheduler.specs.declared.Ticked.TheVariants as ticked
-use Rattle.decisions.specs.declared.Answer.TheVariants.{Refused}
 use Rattle.decisions.specs.Fits.{no_entry}
 use Rattle.scheduler.specs.States.{entry_in, record_in, state_fits, entries_of}
 use Rattle.scheduler.specs.Lawful.{LawfulTask, LawfulState}
@@ -29,7 +26,7 @@ use Rattle.scheduler.proofs.PlaceLaws.{Sized}
 use Rattle.scheduler.proofs.GivenLaws.{given_startable}
 
 -- The state that a refused start hands back keeps no rules: every step and release refuses it with 6.
-pub no_state_refused : (task demand : ℕ) (t : Tally) → ((release_of no_state task demand).answer ≡ Refused refusal.Unfit) × ((step_of no_state t).answer ≡ ticked.Refused refusal.Unfit)
+pub no_state_refused : (task demand : ℕ) (t : Tally) → ((release_of no_state task demand).answer ≡ Err refusal.Unfit) × ((step_of no_state t).answer ≡ Err refusal.Unfit)
 unfolding release_answer step_of state_fits
 no_state_refused task demand t = (refl, refl)
 
@@ -41,7 +38,7 @@ entries_size table (suc n) = length-set (entries_of table n) n _ ∙ entries_siz
 
 -- A fresh place holds its task's record, rests and was never released.
 abbrev pub fresh_entry : List ℕ → ℕ → Entry
-fresh_entry table i = record { task = record_at table (i + 1); job = Resting; last = Never }
+fresh_entry table i = record { task = record_at table (i + 1); job = Resting; last = None }
 
 entries_at : (table : List ℕ) (n i : ℕ) → n ≤ places → i < n → get_or (entries_of table n) i no_entry ≡ fresh_entry table i
 unfolding entries_of
@@ -61,9 +58,9 @@ fresh_entry_lem g = entries_at g.table
 
 -- Every place of a fresh state rests and was never released.
 pub fresh_rests : (g : Given) (n i : ℕ) → n ≤ places → i < places
-    → ((entry_in (fresh_state g n) i).job ≡ Resting) × ((entry_in (fresh_state g n) i).last ≡ Never)
+    → ((entry_in (fresh_state g n) i).job ≡ Resting) × ((entry_in (fresh_state g n) i).last ≡ None)
 fresh_rests g n i few l =
-    by_lt i n (((entry_in (fresh_state g n) i).job ≡ Resting) × ((entry_in (fresh_state g n) i).last ≡ Never))
+    by_lt i n (((entry_in (fresh_state g n) i).job ≡ Resting) × ((entry_in (fresh_state g n) i).last ≡ None))
     (λ lt. rw (entries_at g.table n i few lt) (refl, refl))
     (λ ge. rw (entries_spare g.table n i ge l) (refl, refl))
 
@@ -74,7 +71,7 @@ fresh_record g n zero few l = refl
 fresh_record g n (suc i) few l = ap {A = Entry} (λ x. x.task) (entries_at g.table n i few (omega arith)) ∙ ap (record_at g.table) (add-one i)
 
 -- A FRESH STATE KEEPS THE RULES.
-pub fresh_lawful : (g : Given) (n : ℕ) → read_given g ≡ read.Sound n → Sized (fresh_state g n) × LawfulState (fresh_state g n)
+pub fresh_lawful : (g : Given) (n : ℕ) → read_given g ≡ Ok n → Sized (fresh_state g n) × LawfulState (fresh_state g n)
 fresh_lawful g n e = (
   entries_size g.table n,
   record {

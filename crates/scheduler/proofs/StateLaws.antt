@@ -1,4 +1,5 @@
 -- A state passes the test of its rules exactly when it keeps them.
+use Rattle.std.specs.Prelude.{Option, Some, None}
 use Prim.Native.Nat.{ℕ, zero, suc, ◌+◌, ◌-◌, ◌%◌, ◌≤◌, ◌<◌}
 use mathlib.Core.Path.{◌≡◌, refl, ap}
 use mathlib.Core.Bool.{true, ◌&&◌}
@@ -17,8 +18,6 @@ use Rattle.table.specs.Rules.{Lawful}
 use Rattle.table.proofs.SoundLaws.{record_says, says_record}
 use Rattle.decisions.specs.declared.Job.{Job}
 use Rattle.decisions.specs.declared.Job.TheVariants.{Resting, Working}
-use Rattle.decisions.specs.declared.Last.{Last}
-use Rattle.decisions.specs.declared.Last.TheVariants.{Never, At}
 use Rattle.decisions.specs.declared.Entry.{Entry}
 use Rattle.decisions.specs.declared.Head.{Head}
 use Rattle.scheduler.specs.declared.State.{State}
@@ -27,26 +26,26 @@ use Rattle.scheduler.specs.States.{head_of, entry_in, record_in, period_before, 
 use Rattle.scheduler.specs.Lawful.{LawfulTask, LawfulState}
 
 -- A last release passes its test exactly when it keeps its rules.
-last_says : (head : Head) (i : ℕ) (last : Last) (a : ℕ) → last_fits head i last ≡ true → last ≡ At a → (a ≤ head.clock) × (release_time head.sleep.period i a ≡ true)
-last_says head i Never a e q = let z : ◌≡◌ {A = ℕ} 0 1 = cc in absurd (let y : ⊥ = omega arith in y)
-last_says head i (At p) a e q =
+last_says : (head : Head) (i : ℕ) (last : Option ℕ) (a : ℕ) → last_fits head i last ≡ true → last ≡ Some a → (a ≤ head.clock) × (release_time head.sleep.period i a ≡ true)
+last_says head i None a e q = let z : ◌≡◌ {A = ℕ} 0 1 = cc in absurd (let y : ⊥ = omega arith in y)
+last_says head i (Some p) a e q =
     let pa : p ≡ a = cc in
     let b = both (leb p head.clock) (release_time head.sleep.period i p) e in
     (rw pa at (leb-true p head.clock b.0), rw pa at b.1)
 
-says_last : (head : Head) (i : ℕ) (last : Last) → ((a : ℕ) → last ≡ At a → (a ≤ head.clock) × (release_time head.sleep.period i a ≡ true)) → last_fits head i last ≡ true
-says_last head i Never f = refl
-says_last head i (At a) f = rw (le-leb a head.clock (f a refl).0) (f a refl).1
+says_last : (head : Head) (i : ℕ) (last : Option ℕ) → ((a : ℕ) → last ≡ Some a → (a ≤ head.clock) × (release_time head.sleep.period i a ≡ true)) → last_fits head i last ≡ true
+says_last head i None f = refl
+says_last head i (Some a) f = rw (le-leb a head.clock (f a refl).0) (f a refl).1
 
 -- A job passes its test exactly when it keeps its rules.
-is_last_says : (last : Last) (a : ℕ) → last_is last a ≡ true → last ≡ At a
-is_last_says Never a e = let z : ◌≡◌ {A = ℕ} 0 1 = cc in absurd (let y : ⊥ = omega arith in y)
-is_last_says (At p) a e = ap At (eqb-true p a e)
+is_last_says : (last : Option ℕ) (a : ℕ) → last_is last a ≡ true → last ≡ Some a
+is_last_says None a e = let z : ◌≡◌ {A = ℕ} 0 1 = cc in absurd (let y : ⊥ = omega arith in y)
+is_last_says (Some p) a e = ap Some (eqb-true p a e)
 
-says_is_last : (last : Last) (a : ℕ) → last ≡ At a → last_is last a ≡ true
+says_is_last : (last : Option ℕ) (a : ℕ) → last ≡ Some a → last_is last a ≡ true
 says_is_last last a e = rw (e, eq-eqb a a refl)
 
-job_says : (c : ℕ) (last : Last) (job : Job) (a l : ℕ) → job_fits c last job ≡ true → job ≡ Working a l → (1 ≤ l) × (l ≤ c) × (last ≡ At a)
+job_says : (c : ℕ) (last : Option ℕ) (job : Job) (a l : ℕ) → job_fits c last job ≡ true → job ≡ Working a l → (1 ≤ l) × (l ≤ c) × (last ≡ Some a)
 job_says c last Resting a l e q = let z : ◌≡◌ {A = ℕ} 0 1 = cc in absurd (let y : ⊥ = omega arith in y)
 job_says c last (Working b m) a l e q =
     let ab : b ≡ a = cc in
@@ -55,7 +54,7 @@ job_says c last (Working b m) a l e q =
     let r = both (leb 1 m) (leb m c) p.0 in
     (rw ml at (leb-true 1 m r.0), rw ml at (leb-true m c r.1), rw ab at (is_last_says last b p.1))
 
-says_job : (c : ℕ) (last : Last) (job : Job) → ((a l : ℕ) → job ≡ Working a l → (1 ≤ l) × (l ≤ c) × (last ≡ At a)) → job_fits c last job ≡ true
+says_job : (c : ℕ) (last : Option ℕ) (job : Job) → ((a l : ℕ) → job ≡ Working a l → (1 ≤ l) × (l ≤ c) × (last ≡ Some a)) → job_fits c last job ≡ true
 says_job c last Resting f = refl
 says_job c last (Working a l) f =
     let w = f a l refl in
@@ -93,9 +92,9 @@ says_task s i T =
     (says_job e.task.work e.last e.job T.lawful_task.job_fits)
 
 -- A spare place that passes its test holds a record of zeros, rests and was never released.
-rests_says : (job : Job) (last : Last) → rests_never job last ≡ true → (job ≡ Resting) × (last ≡ Never)
-rests_says Resting Never e = (refl, refl)
-rests_says Resting (At a) e = let z : ◌≡◌ {A = ℕ} 0 1 = cc in absurd (let y : ⊥ = omega arith in y)
+rests_says : (job : Job) (last : Option ℕ) → rests_never job last ≡ true → (job ≡ Resting) × (last ≡ None)
+rests_says Resting None e = (refl, refl)
+rests_says Resting (Some a) e = let z : ◌≡◌ {A = ℕ} 0 1 = cc in absurd (let y : ⊥ = omega arith in y)
 rests_says (Working a l) last e = let z : ◌≡◌ {A = ℕ} 0 1 = cc in absurd (let y : ⊥ = omega arith in y)
 
 zeroed_says : (r : Record) → zeroed r ≡ true → r ≡ no_record
@@ -118,7 +117,7 @@ spare_says e t =
     let b = rests_says e.job e.last a.1 in
     same e e.task e.job e.last refl (zeroed_says e.task a.0) b.0 b.1
   where
-    same : (e : Entry) (t : Record) (j : Job) (l : Last) → e ≡ record { task = t; job = j; last = l } → t ≡ no_record → j ≡ Resting → l ≡ Never → e ≡ no_entry
+    same : (e : Entry) (t : Record) (j : Job) (l : Option ℕ) → e ≡ record { task = t; job = j; last = l } → t ≡ no_record → j ≡ Resting → l ≡ None → e ≡ no_entry
     same e t j l q p u w = rw (p, u, w) at q
 
 -- Record i + 1 is that of the task at place i.

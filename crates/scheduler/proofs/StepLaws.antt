@@ -1,4 +1,5 @@
 -- A step makes its tick, or is refused with 6 or 7 and moves nothing.
+use Rattle.std.specs.Prelude.{Result, Ok, Err}
 use Prim.Native.Nat.{ℕ, ◌<◌}
 use mathlib.Core.Path.{◌≡◌, refl, ap, sym, ◌∙◌}
 use mathlib.Core.Bool.{Bool, true, cond, ◌&&◌, and-eq-true_iff}
@@ -10,10 +11,7 @@ use Rattle.table.specs.declared.Refusal.{Refusal}
 use Rattle.table.specs.declared.Refusal.TheVariants as refusal
 use Rattle.scheduler.specs.declared.State.{State}
 use Rattle.decisions.specs.declared.Tally.{Tally}
-use Rattle.scheduler.specs.declared.Ticked.TheVariants as ticked
 use Rattle.scheduler.specs.declared.Moved.{Moved}
-use Rattle.decisions.specs.declared.Answer.{Answer}
-use Rattle.decisions.specs.declared.Answer.TheVariants.{Accepted, Refused}
 use Rattle.decisions.specs.Fits.{clock_end, total, tally_fits}
 use Rattle.scheduler.specs.States.{state_fits}
 use Rattle.scheduler.specs.Lawful.{LawfulState}
@@ -28,10 +26,10 @@ pub record MayStep (fits : Bool) (t : Tally) (clock : ℕ) : Type 0 where
   pub counted : tally_fits t clock ≡ true
   pub before_end : clock < clock_end
 
-pub may_step_says : (fits : Bool) (t : Tally) (clock : ℕ) → may_step fits t clock ≡ Accepted → MayStep fits t clock
+pub may_step_says : (fits : Bool) (t : Tally) (clock : ℕ) → may_step fits t clock ≡ Ok tt → MayStep fits t clock
 may_step_says fits t clock e =
-    let a = chosen (fits && tally_fits t clock) (cond (leb clock_end clock) (Refused refusal.ClockEnd) Accepted) (Refused refusal.Unfit) Accepted (refused_not _) e in
-    let b = passed (leb clock_end clock) (Refused refusal.ClockEnd) Accepted Accepted (refused_not _) a.1 in
+    let a = chosen (fits && tally_fits t clock) (cond (leb clock_end clock) (Err refusal.ClockEnd) (Ok tt)) (Err refusal.Unfit) (Ok tt) (refused_not _) e in
+    let b = passed (leb clock_end clock) (Err refusal.ClockEnd) (Ok tt) (Ok tt) (refused_not _) a.1 in
     let c = (and-eq-true_iff fits (tally_fits t clock)).0 a.0 in
     record { fitting = c.0; counted = c.1; before_end = leb-false _ _ b.0 }
 
@@ -44,9 +42,9 @@ pub step_is : (s : State) (t : Tally) → StepIs s t
 unfolding step_of
 step_is s t = go (may_step (state_fits s) t s.clock) refl
   where
-    go : (a : Answer) → may_step (state_fits s) t s.clock ≡ a → StepIs s t
-    go Accepted q = moves (may_step_says (state_fits s) t s.clock q) (rw q)
-    go (Refused r) q = stays r (rw q)
+    go : (a : Result (Unit {0}) Refusal) → may_step (state_fits s) t s.clock ≡ a → StepIs s t
+    go (Ok tt) q = moves (may_step_says (state_fits s) t s.clock q) (rw q)
+    go (Err r) q = stays r (rw q)
 
 -- A step on a state that keeps its rules, with a tally that sums to its clock, before the end, makes its tick.
 pub step_made : (s : State) (t : Tally) → LawfulState s → total t ≡ s.clock → s.clock < clock_end → step_of s t ≡ made s t (tick_of s)
@@ -54,11 +52,11 @@ unfolding step_of
 step_made s t L c l = rw (says_fits s L, eq-eqb _ _ c, lt-leb _ _ l)
 
 -- A REFUSED STEP HANDS BACK THE VERY STATE AND TALLY.
-pub step_refused : (s : State) (t : Tally) (r : Refusal) → (step_of s t).answer ≡ ticked.Refused r → ((step_of s t).state ≡ s) × ((step_of s t).tally ≡ t)
+pub step_refused : (s : State) (t : Tally) (r : Refusal) → (step_of s t).answer ≡ Err r → ((step_of s t).state ≡ s) × ((step_of s t).tally ≡ t)
 step_refused s t r e = go (step_is s t)
   where
     go : StepIs s t → ((step_of s t).state ≡ s) × ((step_of s t).tally ≡ t)
     go (moves m q) =
-        let w : ticked.Tick (tick_of s) ≡ ticked.Refused r = sym (ap {A = Moved} (λ m. m.answer) q) ∙ e in
+        let w : Ok (tick_of s) ≡ Err r = sym (ap {A = Moved} (λ m. m.answer) q) ∙ e in
         let z : ◌≡◌ {A = ℕ} 0 1 = cc in absurd (let y : ⊥ = omega arith in y)
     go (stays f q) = (ap {A = Moved} (λ m. m.state) q, ap {A = Moved} (λ m. m.tally) q)

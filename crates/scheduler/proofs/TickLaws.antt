@@ -15,7 +15,7 @@ use Rattle.decisions.specs.declared.Tick.TheVariants.{Run, Slot, Tail}
 use Rattle.decisions.specs.Fits.{clock_end}
 use Rattle.scheduler.specs.States.{head_of, entry_in, aged}
 use Rattle.scheduler.specs.Lawful.{LawfulState}
-use Rattle.decisions.specs.Ticks.{last_boundary, in_slot, may_run, came, worked_job, worked_of}
+use Rattle.decisions.specs.Ticks.{last_boundary, in_slot, may_run, came, next_tick, worked_job, worked_of}
 use Rattle.decisions.proofs.ReadyLaws.{came_may_run}
 use Rattle.scheduler.specs.Steps.{first_ready, tick_of, after_run, after_tick}
 use Rattle.scheduler.proofs.PlaceLaws.{Sized, Keeps, keeps_lawful, set_place}
@@ -25,6 +25,10 @@ pub first_ready_is : (s : State) → 1 ≤ s.sleep.period → first_from (λ i. 
 first_ready_is s p =
     first_same (λ i. came (last_boundary (head_of s)) (entry_in s i).job) (λ i. may_run (head_of s) (entry_in s i).job) s.n 0
     (λ i g l. came_may_run (head_of s) (entry_in s i).job p)
+
+-- So what the engines make of the next tick is the tick of the state.
+pub tick_is_next : (s : State) → 1 ≤ s.sleep.period → next_tick (head_of s) (entry_in s) ≡ tick_of s
+tick_is_next s p = rw (first_ready_is s p)
 
 -- The job at `first_ready` may run, where that is a task's place, and no job before it may.
 pub first_says : (s : State) → first_ready s < s.n

@@ -1,19 +1,19 @@
 -- RULES 3.1 is stated here as facts: when each refusal applies to a start, to a release, to a step and to an energy
 -- reading, in the words of the column "applies when".
-use Rattle.std.specs.Prelude.{ℕ, ◌+◌, ◌-◌, ◌%◌, ◌≤◌, ◌<◌, ◌≡◌, ◌≢◌, ◌⊎◌}
+use Rattle.std.specs.Prelude.{ℕ, ◌+◌, ◌-◌, ◌%◌, ◌≤◌, ◌<◌, ◌≡◌, ◌≢◌, ◌⊎◌, Some}
 use Rattle.table.specs.declared.Refusal.{Refusal}
 use Rattle.table.specs.declared.Refusal.TheVariants as refusal
 use Rattle.table.specs.Bytes.{record_at}
 use Rattle.table.specs.Rules.{SoundTable}
 use Rattle.table.specs.Applies.{TableApplies}
 use Rattle.decisions.specs.declared.Job.TheVariants.{Resting, Working}
-use Rattle.decisions.specs.declared.Last.TheVariants.{At}
 use Rattle.scheduler.specs.declared.State.{State}
 use Rattle.decisions.specs.declared.Tally.{Tally}
 use Rattle.decisions.specs.Fits.{clock_end, total}
 use Rattle.scheduler.specs.States.{entry_in}
 use Rattle.scheduler.specs.Lawful.{LawfulState}
 use Rattle.scheduler.specs.Starts.{Given}
+use Rattle.decisions.specs.declared.Powers.{Powers}
 use Rattle.decisions.specs.Energies.{power_most}
 
 -- WHEN A REFUSAL APPLIES TO A START: 14 does where V is above S; the others do as they apply to its table.
@@ -40,7 +40,7 @@ ReleaseApplies s task demand refusal.NoTask = (1 ≤ task) × (task ≤ s.n) →
 ReleaseApplies s task demand refusal.Demand = (1 ≤ demand) × (demand ≤ (entry_in s (task - 1)).task.work) → ⊥
 ReleaseApplies s task demand refusal.OffBoundary = (task ≡ 1) × (s.clock % s.sleep.period ≢ 0)
 ReleaseApplies s task demand refusal.Working = (a : ℕ) × (l : ℕ) × ((entry_in s (task - 1)).job ≡ Working a l)
-ReleaseApplies s task demand refusal.Early = (a : ℕ) × ((entry_in s (task - 1)).last ≡ At a) × (s.clock < a + (entry_in s (task - 1)).task.period)
+ReleaseApplies s task demand refusal.Early = (a : ℕ) × ((entry_in s (task - 1)).last ≡ Some a) × (s.clock < a + (entry_in s (task - 1)).task.period)
 ReleaseApplies s task demand refusal.Power = ⊥
 ReleaseApplies s task demand refusal.LongWaking = ⊥
 
@@ -55,7 +55,7 @@ pub record Releasable (s : State) (task demand : ℕ) : Type 0 where
   pub full : demand ≤ (entry_in s (task - 1)).task.work
   pub on_boundary : task ≡ 1 → s.clock % s.sleep.period ≡ 0
   pub resting : (entry_in s (task - 1)).job ≡ Resting
-  pub spaced : (a : ℕ) → (entry_in s (task - 1)).last ≡ At a → a + (entry_in s (task - 1)).task.period ≤ s.clock
+  pub spaced : (a : ℕ) → (entry_in s (task - 1)).last ≡ Some a → a + (entry_in s (task - 1)).task.period ≤ s.clock
 
 -- State and tally keep their rules: the state is lawful, and the tally's counts sum to the clock.
 pub record RulesKept (s : State) (t : Tally) : Type 0 where
@@ -81,7 +81,7 @@ StepApplies s t refusal.LongWaking = ⊥
 
 -- WHEN A REFUSAL APPLIES TO AN ENERGY READING: 6 does where the counts sum to more than 1,000,000,000, 13 where a power
 -- figure is above 1,000,000 microwatts, and no other one.
-abbrev pub EnergyApplies : Tally → ℕ → ℕ → ℕ → Refusal → Type 0
-EnergyApplies t run sleep waking r =
+abbrev pub EnergyApplies : Tally → Powers → Refusal → Type 0
+EnergyApplies t powers r =
     ((r ≡ refusal.Unfit) × (clock_end < total t))
-    ⊎ ((r ≡ refusal.Power) × ((power_most < run) ⊎ (power_most < sleep) ⊎ (power_most < waking)))
+    ⊎ ((r ≡ refusal.Power) × ((power_most < powers.run) ⊎ (power_most < powers.sleep) ⊎ (power_most < powers.waking)))

@@ -1,12 +1,11 @@
 -- A state (RULES 4) is defined here: what it holds and how it changes, and its rules, which are those of its head and of
 -- every place (decisions/specs/Fits.antt).
-use Rattle.std.specs.Prelude.{ℕ, zero, suc, ◌+◌, List, Bool, ◌&&◌, get_or, set, replicate}
+use Rattle.std.specs.Prelude.{ℕ, zero, suc, ◌+◌, List, Bool, ◌&&◌, get_or, set, replicate, None}
 use Rattle.base.specs.Every.{every}
 use Rattle.table.specs.declared.Record.{Record}
 use Rattle.table.specs.Bytes.{record_at}
 use Rattle.table.specs.Sound.{places}
 use Rattle.decisions.specs.declared.Job.TheVariants.{Resting}
-use Rattle.decisions.specs.declared.Last.TheVariants.{Never}
 use Rattle.decisions.specs.declared.Entry.{Entry}
 use Rattle.decisions.specs.declared.Head.{Head}
 use Rattle.decisions.specs.Fits.{no_entry, place_fits, head_fits}
@@ -58,4 +57,4 @@ state_fits s = head_fits (head_of s) (record_in s 1) && places_fit (head_of s) s
 -- `entries_of` gives the entries of the first n tasks of a table, resting and never released, then spare places.
 unfoldable pub entries_of : List ℕ → ℕ → List Entry
 entries_of table zero = replicate places no_entry
-entries_of table (suc i) = set (entries_of table i) i (record { task = record_at table (i + 1); job = Resting; last = Never })
+entries_of table (suc i) = set (entries_of table i) i (record { task = record_at table (i + 1); job = Resting; last = None })

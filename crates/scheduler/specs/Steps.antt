@@ -1,5 +1,5 @@
 -- RULES 7, "One tick", is defined here: a tick is slot, run or tail.
-use Rattle.std.specs.Prelude.{ℕ, ◌+◌, ◌-◌, ◌≤◌, ◌<◌, cond}
+use Rattle.std.specs.Prelude.{ℕ, ◌+◌, ◌-◌, ◌≤◌, ◌<◌, cond, Result, Ok, Err}
 use Rattle.base.specs.First.{first_from}
 use Rattle.table.specs.declared.Refusal.{Refusal}
 use Rattle.scheduler.specs.declared.State.{State}
@@ -8,9 +8,6 @@ use Rattle.decisions.specs.declared.Count.{Count}
 use Rattle.decisions.specs.declared.Count.TheVariants.{Runs, Slots, Tails, Wakings}
 use Rattle.decisions.specs.declared.Tick.{Tick}
 use Rattle.decisions.specs.declared.Tick.TheVariants.{Run, Slot, Tail}
-use Rattle.scheduler.specs.declared.Ticked.TheVariants as ticked
-use Rattle.decisions.specs.declared.Answer.{Answer}
-use Rattle.decisions.specs.declared.Answer.TheVariants.{Accepted, Refused}
 use Rattle.scheduler.specs.declared.Moved.{Moved}
 use Rattle.decisions.specs.Fits.{clock_end}
 use Rattle.decisions.specs.Asks.{may_step}
@@ -44,16 +41,16 @@ raised t Wakings = record { run = t.run; slot = t.slot; tail = t.tail; waking = 
 
 -- `made` is what a step gives for the tick that it makes.
 abbrev pub made : State → Tally → Tick → Moved
-made s t tick = record { answer = ticked.Tick tick; tally = raised t (count_of (head_of s) tick); state = after_tick s tick }
+made s t tick = record { answer = Ok tick; tally = raised t (count_of (head_of s) tick); state = after_tick s tick }
 
 -- A step that is refused leaves state and tally unchanged.
 abbrev pub unmoved : State → Tally → Refusal → Moved
-unmoved s t r = record { answer = ticked.Refused r; tally = t; state = s }
+unmoved s t r = record { answer = Err r; tally = t; state = s }
 
 -- `step_from` is what the answer of `may_step` makes of the step.
-abbrev pub step_from : State → Tally → Answer → Moved
-step_from s t Accepted = made s t (tick_of s)
-step_from s t (Refused r) = unmoved s t r
+abbrev pub step_from : State → Tally → Result (Unit {0}) Refusal → Moved
+step_from s t (Ok tt) = made s t (tick_of s)
+step_from s t (Err r) = unmoved s t r
 
 -- A STEP is defined on any state with any tally.
 unfoldable pub step_of : State → Tally → Moved

@@ -1,5 +1,6 @@
 -- A reading is refused with the lowest of 1 to 4 that applies: each search finds the first record that breaks its rule,
 -- and there is one such.
+use Rattle.std.specs.Prelude.{Result, Ok, Err}
 use Prim.Native.Nat.{ℕ, ◌+◌, ◌-◌, ◌%◌, ◌≤◌, ◌<◌}
 use mathlib.Core.Path.{◌≡◌, refl, ap, subst}
 use mathlib.Core.Logic.{◌↔◌, ◌≢◌, ◌⊎◌, inl, inr}
@@ -15,8 +16,6 @@ use Rattle.base.proofs.FirstLaws.{IsFirst, first_is}
 use Rattle.table.specs.declared.Record.{Record}
 use Rattle.table.specs.declared.Refusal.{Refusal}
 use Rattle.table.specs.declared.Refusal.TheVariants.{Length, Broken, Falling, Sleep, NoWindow, Unfit, ClockEnd, NoTask, Demand, OffBoundary, Working, Early, Power, LongWaking}
-use Rattle.table.specs.declared.Reading.{Reading}
-use Rattle.table.specs.declared.Reading.TheVariants.{Sound, Refused}
 use Rattle.table.specs.Bytes.{records_in, record_at}
 use Rattle.table.specs.Sound.{places, sleep_fits, broken, falling, first_broken, first_falling, ask_records, ask_order, ask_sleep, length_fits, read_of}
 use Rattle.table.specs.Rules.{Lawful}
@@ -138,12 +137,12 @@ pub table_numbers : (bytes : List ℕ) (q : Refusal) → TableApplies bytes q �
 table_numbers bytes q a = (known bytes q a).1
 
 -- `Says` is what a reading says of the refusals that apply: sound that none does, refused that its own is the lowest.
-abbrev Says : (Refusal → Type 0) → Reading → Type 0
-Says Applies (Sound n) = (q : Refusal) → Applies q → ⊥
-Says Applies (Refused r) = Lowest Applies r
+abbrev Says : (Refusal → Type 0) → Result ℕ Refusal → Type 0
+Says Applies (Ok n) = (q : Refusal) → Applies q → ⊥
+Says Applies (Err r) = Lowest Applies r
 
-abbrev chain : (bytes : List ℕ) → Chain (TableApplies bytes) Reading
-chain bytes = record { low = 1; end = 5; due = due bytes; known = known bytes; refused = Refused; Says = Says (TableApplies bytes); says = λ r L. L }
+abbrev chain : (bytes : List ℕ) → Chain (TableApplies bytes) (Result ℕ Refusal)
+chain bytes = record { low = 1; end = 5; due = due bytes; known = known bytes; refused = Err; Says = Says (TableApplies bytes); says = λ r L. L }
 
 -- A READING says that none applies, or that its own refusal is the lowest that does, by its tests in their order.
 reading_says : (bytes : List ℕ) → Says (TableApplies bytes) (read_of bytes)
@@ -154,7 +153,7 @@ reading_says bytes =
     let two : 2 ≤ count = ((length_test bytes).0 e1).two in
     let none : count ≤ first_broken set count = ltb-false _ _ e2 in
     when (chain bytes) (Falling (first_falling set count)) refl (ltb (first_falling set count) count) (ask_sleep set count) (falling_test set count two) b2 (λ e3 b3.
-    unless (chain bytes) Sleep refl (sleep_fits (set 0) (set 1)) (Sound (count - 1))
+    unless (chain bytes) Sleep refl (sleep_fits (set 0) (set 1)) (Ok (count - 1))
     (sleep_test (set 0) (set 1) (sound_says set count 0 ((search_2 set count).before 0 (omega arith) (omega arith))).within) b3 (λ e4 b4.
     past (chain bytes) b4))))
   where
@@ -165,19 +164,19 @@ reading_says bytes =
     count = records_in bytes
 
 -- A READING IS REFUSED exactly with the lowest refusal that applies.
-pub reading_refused_exactly : (bytes : List ℕ) (r : Refusal) → (read_of bytes ≡ Refused r) ↔ Lowest (TableApplies bytes) r
+pub reading_refused_exactly : (bytes : List ℕ) (r : Refusal) → (read_of bytes ≡ Err r) ↔ Lowest (TableApplies bytes) r
 reading_refused_exactly bytes r = go (read_of bytes) (reading_says bytes)
   where
-    go : (x : Reading) → Says (TableApplies bytes) x → (x ≡ Refused r) ↔ Lowest (TableApplies bytes) r
-    go (Sound n) S = (
+    go : (x : Result ℕ Refusal) → Says (TableApplies bytes) x → (x ≡ Err r) ↔ Lowest (TableApplies bytes) r
+    go (Ok n) S = (
       λ e. let z : ◌≡◌ {A = ℕ} 0 1 = cc in absurd (let y : ⊥ = omega arith in y),
       λ L. absurd (S r L.applies),
     )
-    go (Refused q) S = (
+    go (Err q) S = (
       λ e. let same : q ≡ r = cc in subst (Lowest (TableApplies bytes)) same S,
-      λ L. ap Refused (one_lowest (chain bytes) q r S L),
+      λ L. ap Err (one_lowest (chain bytes) q r S L),
     )
 
 -- No refusal applies to a table that reads as sound.
-pub sound_none_applies : (bytes : List ℕ) (n : ℕ) → read_of bytes ≡ Sound n → (q : Refusal) → TableApplies bytes q → ⊥
+pub sound_none_applies : (bytes : List ℕ) (n : ℕ) → read_of bytes ≡ Ok n → (q : Refusal) → TableApplies bytes q → ⊥
 sound_none_applies bytes n e = subst (Says (TableApplies bytes)) e (reading_says bytes)

@@ -1,5 +1,6 @@
 -- The rules of a sound set are what the theory asks of a set: S below H, every work and period at least 1, no job that
 -- waits longer than the set says; the first period is a multiple of H, and so no period is below H.
+use Rattle.std.specs.Prelude.{Ok}
 use Prim.Native.Nat.{ℕ, zero, suc, ◌+◌, ◌-◌, ◌*◌, ◌/◌, ◌≤◌, ◌<◌}
 use mathlib.Core.Path.{◌≡◌, refl}
 use mathlib.Core.List.{List}
@@ -11,7 +12,6 @@ use borrow.Author.Tests.{ltb-true, lt-ltb}
 use Rattle.base.proofs.Split.{by_lt}
 use Rattle.theory.proofs.System.{Sound}
 use Rattle.table.specs.declared.Record.{Record}
-use Rattle.table.specs.declared.Reading.TheVariants as Reading
 use Rattle.table.specs.Bytes.{records_in, record_at}
 use Rattle.table.specs.Sound.{largest, places, read_of}
 use Rattle.table.specs.Rules.{SoundSet}
@@ -74,7 +74,7 @@ pub record TableSet (bytes : List ℕ) (n : ℕ) : Type 0 where
   pub set : SoundSet (record_at bytes) (records_in bytes - 1)
 
 -- Every table that reads as sound is a `TableSet`.
-pub read_set : (bytes : List ℕ) (n : ℕ) → read_of bytes ≡ Reading.Sound n → TableSet bytes n
+pub read_set : (bytes : List ℕ) (n : ℕ) → read_of bytes ≡ Ok n → TableSet bytes n
 read_set bytes n e =
     let S = read_sound bytes n e in
     let count : records_in bytes - 1 ≡ n = omega (arith, records_are bytes n S.length_is) in

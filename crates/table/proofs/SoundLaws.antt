@@ -1,5 +1,6 @@
 -- A reading is sound exactly when every rule holds. Each number's test, passed, gives its rule; the searches of numbers
 -- 2 and 3 give theirs for every record, since nothing was found before their end.
+use Rattle.std.specs.Prelude.{Result, Ok, Err}
 use Prim.Native.Nat.{ℕ, ◌+◌, ◌-◌, ◌*◌, ◌%◌, ◌≤◌}
 use mathlib.Core.Path.{◌≡◌, refl}
 use mathlib.Core.List.{List}
@@ -13,15 +14,13 @@ use Rattle.base.proofs.FirstLaws.{first_is, search_none}
 use Rattle.table.specs.declared.Record.{Record}
 use Rattle.table.specs.declared.Refusal.{Refusal}
 use Rattle.table.specs.declared.Refusal.TheVariants.{Length, Broken, Falling, Sleep}
-use Rattle.table.specs.declared.Reading.{Reading}
-use Rattle.table.specs.declared.Reading.TheVariants.{Sound, Refused}
 use Rattle.table.specs.Refusals.{reading_gives}
 use Rattle.table.specs.Rules.{Lawful, SoundSet, SoundTable}
 use Rattle.table.specs.Bytes.{records_in, record_at}
 use Rattle.table.specs.Sound.{largest, places, record_fits, sleep_fits, broken, falling, first_broken, first_falling, ask_records, ask_order, ask_sleep, length_fits, read_of}
 
 -- A refused reading is not sound.
-pub refused_not_sound : (f : Refusal) (n : ℕ) → Refused f ≡ Sound n → ⊥
+pub refused_not_sound : (f : Refusal) (n : ℕ) → Err f ≡ Ok n → ⊥
 refused_not_sound f n e = let z : ◌≡◌ {A = ℕ} 0 1 = cc in omega arith
 
 -- A record that passes the test keeps the rule of C, T and the reserved field.
@@ -42,12 +41,12 @@ pub says_record : (r : Record) → Lawful r → record_fits r ≡ true
 says_record r L = rw (le-leb _ _ L.some, le-leb _ _ L.within, le-leb _ _ L.small, eq-eqb _ _ L.reserved_zero)
 
 -- The reading of records is sound only where the rules hold.
-pub ask_sound : (set : ℕ → Record) (count n : ℕ) → 2 ≤ count → ask_records set count ≡ Sound n → (count ≡ n + 1) × SoundSet set n
+pub ask_sound : (set : ℕ → Record) (count n : ℕ) → 2 ≤ count → ask_records set count ≡ Ok n → (count ≡ n + 1) × SoundSet set n
 unfolding ask_records ask_order ask_sleep
 ask_sound set count n two e =
-    let p2 = passed (ltb (first_broken set count) count) (Refused (Broken (first_broken set count))) (ask_order set count) (Sound n) (refused_not_sound _ n) e in
-    let p3 = passed (ltb (first_falling set count) count) (Refused (Falling (first_falling set count))) (ask_sleep set count) (Sound n) (refused_not_sound _ n) p2.1 in
-    let p4 = chosen (sleep_fits (set 0) (set 1)) (Sound (count - 1)) (Refused Sleep) (Sound n) (refused_not_sound Sleep n) p3.1 in
+    let p2 = passed (ltb (first_broken set count) count) (Err (Broken (first_broken set count))) (ask_order set count) (Ok n) (refused_not_sound _ n) e in
+    let p3 = passed (ltb (first_falling set count) count) (Err (Falling (first_falling set count))) (ask_sleep set count) (Ok n) (refused_not_sound _ n) p2.1 in
+    let p4 = chosen (sleep_fits (set 0) (set 1)) (Ok (count - 1)) (Err Sleep) (Ok n) (refused_not_sound Sleep n) p3.1 in
     let n_is : count - 1 ≡ n = cc p4.1 in
     let h = both (ltb (set 0).work (set 0).period) (eqb ((set 1).period % (set 0).period) 0) p4.0 in
     let F2 = first_is (broken set) count 0 in
@@ -65,7 +64,7 @@ ask_sound set count n two e =
     )
 
 -- The reading of records is sound where the rules hold.
-pub sound_ask : (set : ℕ → Record) (n : ℕ) → SoundSet set n → ask_records set (n + 1) ≡ Sound n
+pub sound_ask : (set : ℕ → Record) (n : ℕ) → SoundSet set n → ask_records set (n + 1) ≡ Ok n
 unfolding ask_records ask_order ask_sleep
 sound_ask set n S =
     let some : 1 ≤ n = S.some in
@@ -83,10 +82,10 @@ pub records_are : (bytes : List ℕ) (n : ℕ) → length bytes ≡ 16 * (n + 1)
 records_are bytes n e = omega arith
 
 -- A READING IS SOUND EXACTLY WHEN THE RULES HOLD: first, the rules hold of a table that reads as sound.
-pub read_sound : (bytes : List ℕ) (n : ℕ) → read_of bytes ≡ Sound n → SoundTable bytes n
+pub read_sound : (bytes : List ℕ) (n : ℕ) → read_of bytes ≡ Ok n → SoundTable bytes n
 unfolding read_of
 read_sound bytes n e =
-    let p1 = chosen (length_fits bytes) (ask_records (record_at bytes) (records_in bytes)) (Refused Length) (Sound n) (refused_not_sound Length n) e in
+    let p1 = chosen (length_fits bytes) (ask_records (record_at bytes) (records_in bytes)) (Err Length) (Ok n) (refused_not_sound Length n) e in
     let a = both (eqb (length bytes % 16) 0 && leb 2 (records_in bytes)) (leb (records_in bytes) (1 + places)) p1.0 in
     let b = both (eqb (length bytes % 16) 0) (leb 2 (records_in bytes)) a.0 in
     let s = ask_sound (record_at bytes) (records_in bytes) n (leb-true _ _ b.1) p1.1 in
@@ -95,7 +94,7 @@ read_sound bytes n e =
     record { length_is = omega (arith, s.0); few = omega (arith, s.0); set = s.1 }
 
 -- A READING IS SOUND EXACTLY WHEN THE RULES HOLD: the other way round, a table of which they hold reads as sound.
-pub sound_read : (bytes : List ℕ) (n : ℕ) → SoundTable bytes n → read_of bytes ≡ Sound n
+pub sound_read : (bytes : List ℕ) (n : ℕ) → SoundTable bytes n → read_of bytes ≡ Ok n
 unfolding read_of
 sound_read bytes n S =
     let some : 1 ≤ n = S.set.some in
@@ -108,17 +107,17 @@ sound_read bytes n S =
 
 -- A reading gives four refusals, and what holds of all four holds of the one that it gives.
 module _ (P : Refusal → Type 0) (length_has : P Length) (broken_has : (k : ℕ) → P (Broken k)) (falling_has : (k : ℕ) → P (Falling k)) (sleep_has : P Sleep) where
-  abbrev IfRefused : Reading → Type 0
-  IfRefused (Sound n) = Unit {0}
-  IfRefused (Refused refusal) = P refusal
+  abbrev IfRefused : Result ℕ Refusal → Type 0
+  IfRefused (Ok n) = Unit {0}
+  IfRefused (Err refusal) = P refusal
 
   if_refused : (bytes : List ℕ) → IfRefused (read_of bytes)
   unfolding read_of ask_records ask_order ask_sleep
   if_refused bytes =
-      either IfRefused (length_fits bytes) (ask_records set count) (Refused Length)
-      (either IfRefused (ltb (first_broken set count) count) (Refused (Broken (first_broken set count))) (ask_order set count) (broken_has _)
-      (either IfRefused (ltb (first_falling set count) count) (Refused (Falling (first_falling set count))) (ask_sleep set count) (falling_has _)
-      (either IfRefused (sleep_fits (set 0) (set 1)) (Sound (count - 1)) (Refused Sleep) tt sleep_has)))
+      either IfRefused (length_fits bytes) (ask_records set count) (Err Length)
+      (either IfRefused (ltb (first_broken set count) count) (Err (Broken (first_broken set count))) (ask_order set count) (broken_has _)
+      (either IfRefused (ltb (first_falling set count) count) (Err (Falling (first_falling set count))) (ask_sleep set count) (falling_has _)
+      (either IfRefused (sleep_fits (set 0) (set 1)) (Ok (count - 1)) (Err Sleep) tt sleep_has)))
       length_has
     where
       set : ℕ → Record
@@ -127,9 +126,9 @@ module _ (P : Refusal → Type 0) (length_has : P Length) (broken_has : (k : ℕ
       count : ℕ
       count = records_in bytes
 
-  pub reading_has : (bytes : List ℕ) (refusal : Refusal) → read_of bytes ≡ Refused refusal → P refusal
+  pub reading_has : (bytes : List ℕ) (refusal : Refusal) → read_of bytes ≡ Err refusal → P refusal
   reading_has bytes refusal e = rw e at (if_refused bytes)
 
 -- The refusal that a reading gives is one of those that a reading is said to give.
-pub reading_gives_lem : (bytes : List ℕ) (refusal : Refusal) → read_of bytes ≡ Refused refusal → reading_gives refusal ≡ true
+pub reading_gives_lem : (bytes : List ℕ) (refusal : Refusal) → read_of bytes ≡ Err refusal → reading_gives refusal ≡ true
 reading_gives_lem = reading_has (λ r. reading_gives r ≡ true) refl (λ k. refl) (λ k. refl) refl

@@ -4,9 +4,10 @@
 // a refusal comes back with and which call gives it by specs/Refusals.antt.
 #![tactic(auto)]
 
-ghost use Rattle.std.specs.Prelude.{◌≡◌, ◌<◌, ◌≤◌, ◌/◌};
+ghost use Rattle.std.specs.Prelude.{◌≡◌, ◌+◌, ◌<◌, ◌≤◌, ◌/◌, length};
+ghost use Rattle.base.specs.First.{found_in};
 ghost use Rattle.table.specs.Refusals.{search_gives, told_of};
-ghost use Rattle.table.specs.Bytes.{word_at, record_at, records_in};
+ghost use Rattle.table.specs.Bytes.{word_at, record_at, record_bytes, records_in};
 ghost use Rattle.table.specs.Sound.{record_fits, sleep_fits, first_broken, first_falling, read_of};
 ghost use Rattle.table.specs.Times.{release_time};
 
@@ -16,13 +17,13 @@ pub const RECORD_BYTES: usize = 16;
 
 pub const PLACES: usize = 16;
 
-pub const MOST_TASKS: u32 = 16;
+pub const MOST_TASKS: u32 = PLACES as u32;
 
 pub const LARGEST: u32 = 60000;
 
 // This is one record. In record 0 the work is the sleep time S and the period the harmonizing
-// period H.
-#[derive(Clone, Copy)]
+// period H. The default is a record of zeros.
+#[derive(Clone, Copy, Debug, Default, PartialEq, Eq)]
 pub struct Record {
     pub label: u32,
     pub work: u32,
@@ -31,7 +32,7 @@ pub struct Record {
 }
 
 // These refusals are what is turned away, in the order of their numbers, 1 to 14 (RULES 3.1).
-#[derive(Clone, Copy)]
+#[derive(Clone, Copy, Debug, PartialEq, Eq)]
 pub enum Refusal {
     Length,
     Broken { record: u32 },
@@ -49,59 +50,36 @@ pub enum Refusal {
     LongWaking,
 }
 
-// This is a refusal as RULES 3.1 gives it: its number, the record or task that comes back with
+// This is a refusal as RULES 3.1 and include/node.h give it: its number, the record or task that comes back with
 // it, and the rounds spent; what it does not come back with is 0.
-#[derive(Clone, Copy)]
+#[derive(Clone, Copy, Debug, Default, PartialEq, Eq)]
 pub struct Told {
     pub number: u32,
     pub place: u32,
     pub rounds: u32,
 }
 
-// A table's reading is the number of its tasks, or the lowest of refusals 1 to 4 that applies.
-#[derive(Clone, Copy)]
-pub enum Reading {
-    Sound { tasks: u32 },
-    Refused(Refusal),
-}
-
-// `read` gives the reading of any bytes.
+// `read` gives the reading of any bytes: the number of tasks of a sound table, or the lowest of
+// refusals 1 to 4 that applies.
 #[tactic(auto, unfolding(crate::specs::Sound::read_of, crate::specs::Sound::ask_records, crate::specs::Sound::ask_order, crate::specs::Sound::ask_sleep))]
-pub fn read(table: &[u8]) -> Reading
+pub fn read(table: &[u8]) -> Result<u32, Refusal>
     ensures { result ≡ read_of table.now }
 {
     let count = records_in(table);
-    if table.len() % RECORD_BYTES != 0 {
-        return Reading::Refused(Refusal::Length);
-    }
-    if count < 2 {
-        return Reading::Refused(Refusal::Length);
-    }
-    if PLACES + 1 < count {
-        return Reading::Refused(Refusal::Length);
+    if table.len() % RECORD_BYTES != 0 || count < 2 || PLACES + 1 < count {
+        return Err(Refusal::Length);
     }
     // Number 2 looks at all records before 3 is considered.
-    let broken = first_broken(table, count);
-    if broken < count {
-        return Reading::Refused(Refusal::Broken {
-            record: broken as u32,
-        });
+    if let Some(k) = first_broken(table, count) {
+        return Err(Refusal::Broken { record: k as u32 });
     }
-    let falling = first_falling(table, count);
-    if falling < count {
-        return Reading::Refused(Refusal::Falling {
-            record: falling as u32,
-        });
+    if let Some(k) = first_falling(table, count) {
+        return Err(Refusal::Falling { record: k as u32 });
     }
-    let sleep = record_at(table, 0);
-    let first = record_at(table, 1);
-    if sleep_fits(sleep, first) {
-        Reading::Sound {
-            tasks: (count - 1) as u32,
-        }
-    } else {
-        Reading::Refused(Refusal::Sleep)
+    if !sleep_fits(record_at(table, 0), record_at(table, 1)) {
+        return Err(Refusal::Sleep);
     }
+    Ok((count - 1) as u32)
 }
 
 // `records_in` tells how many whole records the bytes hold.
@@ -116,21 +94,30 @@ pub fn records_in(table: &[u8]) -> usize
 pub fn record_at(table: &[u8], k: usize) -> Record
     ensures { result ≡ record_at table.now k }
 {
-    if k < records_in(table) {
-        Record {
-            label: word_at(table, RECORD_BYTES * k),
-            work: word_at(table, RECORD_BYTES * k + 4),
-            period: word_at(table, RECORD_BYTES * k + 8),
-            reserved: word_at(table, RECORD_BYTES * k + 12),
-        }
-    } else {
-        Record {
-            label: 0,
-            work: 0,
-            period: 0,
-            reserved: 0,
-        }
+    if records_in(table) <= k {
+        return Record::default();
     }
+    Record {
+        label: word_in(table, RECORD_BYTES * k),
+        work: word_in(table, RECORD_BYTES * k + 4),
+        period: word_in(table, RECORD_BYTES * k + 8),
+        reserved: word_in(table, RECORD_BYTES * k + 12),
+    }
+}
+
+// `record_bytes` gives the bytes of a record, as a table has them.
+pub fn record_bytes(r: Record) -> [u8; RECORD_BYTES]
+    ensures { result ≡ record_bytes r }
+{
+    let words = [
+        r.label.to_le_bytes(),
+        r.work.to_le_bytes(),
+        r.period.to_le_bytes(),
+        r.reserved.to_le_bytes(),
+    ];
+    let mut bytes = [0; RECORD_BYTES];
+    bytes.copy_from_slice(words.as_flattened());
+    bytes
 }
 
 // `word_at` gives the 32-bit number at a byte position, little-endian, or 0 where not all four
@@ -139,32 +126,27 @@ pub fn record_at(table: &[u8], k: usize) -> Record
 pub fn word_at(bytes: &[u8], at: usize) -> u32
     ensures { result ≡ word_at bytes.now at }
 {
-    if bytes.len() < 4 {
-        return 0;
-    }
-    if bytes.len() - 4 < at {
-        return 0;
-    }
-    wide(bytes[at])
-        + 256 * wide(bytes[at + 1])
-        + 65536 * wide(bytes[at + 2])
-        + 16777216 * wide(bytes[at + 3])
+    bytes
+        .get(at..)
+        .and_then(|rest| rest.first_chunk::<4>())
+        .map_or(0, |word| u32::from_le_bytes(*word))
+}
+
+// `word_in` is `word_at` where the bytes are there: with a test for each word admission took 1.67
+// times the Rust, and its aim is 1.2 (docs/PERFORMANCE.md).
+#[tactic(auto, unfolding(crate::specs::Bytes::word_at))]
+fn word_in(bytes: &[u8], at: usize) -> u32
+    requires { at + 4 ≤ length bytes.now }
+    ensures { result ≡ word_at bytes.now at }
+{
+    u32::from_le_bytes([bytes[at], bytes[at + 1], bytes[at + 2], bytes[at + 3]])
 }
 
 // `record_fits` tells whether a record keeps the rule of C, T and the reserved field (number 2).
 pub fn record_fits(r: Record) -> bool
     ensures { result ≡ record_fits r }
 {
-    if r.work < 1 {
-        return false;
-    }
-    if r.period < r.work {
-        return false;
-    }
-    if LARGEST < r.period {
-        return false;
-    }
-    r.reserved == 0
+    1 <= r.work && r.work <= r.period && r.period <= LARGEST && r.reserved == 0
 }
 
 // `sleep_fits` tells whether S is below H and the first task's period is a multiple of H (number
@@ -173,27 +155,16 @@ pub fn sleep_fits(sleep: Record, first: Record) -> bool
     ensures { result ≡ sleep_fits sleep first }
 {
     // S is below H here, so H is not 0 where it divides.
-    if sleep.work < sleep.period {
-        first.period % sleep.period == 0
-    } else {
-        false
-    }
+    sleep.work < sleep.period && first.period % sleep.period == 0
 }
 
 // `release_time` tells whether the task at place i, from 0, may be released at a tick: the first
-// task may at multiples of h alone, any other at every tick.
+// task may at multiples of h alone, any other at every tick. Of 0 only 0 is a multiple.
 #[tactic(auto, unfolding(crate::specs::Times::release_time))]
 pub fn release_time(h: u32, i: u32, tick: u32) -> bool
     ensures { result ≡ release_time h i tick }
 {
-    if i != 0 {
-        return true;
-    }
-    // Of 0 only 0 is a multiple.
-    if h == 0 {
-        return tick == 0;
-    }
-    tick % h == 0
+    i != 0 || tick.is_multiple_of(h)
 }
 
 // `no_window` tells whether a refusal is that of the search for windows: its table is sound, and
@@ -201,85 +172,58 @@ pub fn release_time(h: u32, i: u32, tick: u32) -> bool
 pub fn no_window(refusal: Refusal) -> bool
     ensures { result ≡ search_gives refusal }
 {
-    match refusal {
-        Refusal::NoWindow { task: _, rounds: _ } => true,
-        _ => false,
-    }
+    matches!(refusal, Refusal::NoWindow { .. })
 }
 
-// `tell` gives a refusal's number and what comes back with it.
-pub fn tell(refusal: Refusal) -> Told
-    ensures { result ≡ told_of refusal }
-{
-    match refusal {
-        Refusal::Length => placed(1, 0),
-        Refusal::Broken { record } => placed(2, record),
-        Refusal::Falling { record } => placed(3, record),
-        Refusal::Sleep => placed(4, 0),
-        Refusal::NoWindow { task, rounds } => Told {
-            number: 5,
-            place: task,
-            rounds: rounds,
-        },
-        Refusal::Unfit => placed(6, 0),
-        Refusal::ClockEnd => placed(7, 0),
-        Refusal::NoTask => placed(8, 0),
-        Refusal::Demand => placed(9, 0),
-        Refusal::OffBoundary => placed(10, 0),
-        Refusal::Working => placed(11, 0),
-        Refusal::Early => placed(12, 0),
-        Refusal::Power => placed(13, 0),
-        Refusal::LongWaking => placed(14, 0),
-    }
-}
+// A refusal is told by its number and what comes back with it.
+impl From<Refusal> for Told {
+    ghost from_gives = { λ refusal t. t ≡ told_of refusal };
 
-fn placed(number: u32, place: u32) -> Told
-    ensures { result ≡ record { number = number; place = place; rounds = 0 } }
-{
-    Told {
-        number: number,
-        place: place,
-        rounds: 0,
-    }
-}
-
-// `first_broken` gives the first record that breaks its rule, or count.
-#[tactic(auto, using(base::proofs::FirstLaws::first_on, base::proofs::FirstLaws::first_here, base::proofs::FirstLaws::first_end))]
-fn first_broken(table: &[u8], count: usize) -> usize
-    ensures { result ≡ first_broken (record_at table.now) count }
-{
-    let mut k: usize = 0;
-    while k < count {
-        let r = record_at(table, k);
-        if !record_fits(r) {
-            return k;
+    fn from(refusal: Refusal) -> Told {
+        let numbered = |number| Told {
+            number,
+            ..Told::default()
+        };
+        match refusal {
+            Refusal::Length => numbered(1),
+            Refusal::Broken { record } => Told {
+                place: record,
+                ..numbered(2)
+            },
+            Refusal::Falling { record } => Told {
+                place: record,
+                ..numbered(3)
+            },
+            Refusal::Sleep => numbered(4),
+            Refusal::NoWindow { task, rounds } => Told {
+                number: 5,
+                place: task,
+                rounds,
+            },
+            Refusal::Unfit => numbered(6),
+            Refusal::ClockEnd => numbered(7),
+            Refusal::NoTask => numbered(8),
+            Refusal::Demand => numbered(9),
+            Refusal::OffBoundary => numbered(10),
+            Refusal::Working => numbered(11),
+            Refusal::Early => numbered(12),
+            Refusal::Power => numbered(13),
+            Refusal::LongWaking => numbered(14),
         }
-        k += 1;
     }
-    k
 }
 
-// `first_falling` gives the first record from 2 on whose period is below that of the one before, or
-// count.
-#[tactic(auto, using(base::proofs::FirstLaws::first_on, base::proofs::FirstLaws::first_here, base::proofs::FirstLaws::first_end))]
-fn first_falling(table: &[u8], count: usize) -> usize
+// `first_broken` gives the first record that breaks its rule.
+fn first_broken(table: &[u8], count: usize) -> Option<usize>
+    ensures { result ≡ found_in (first_broken (record_at table.now) count) count }
+{
+    (0..count).find(|&k| !record_fits(record_at(table, k)))
+}
+
+// `first_falling` gives the first record from 2 on whose period is below that of the one before.
+fn first_falling(table: &[u8], count: usize) -> Option<usize>
     requires { 2 ≤ count }
-    ensures { result ≡ first_falling (record_at table.now) count }
+    ensures { result ≡ found_in (first_falling (record_at table.now) count) count }
 {
-    let mut k: usize = 2;
-    while k < count {
-        let above = record_at(table, k - 1);
-        let r = record_at(table, k);
-        if r.period < above.period {
-            return k;
-        }
-        k += 1;
-    }
-    k
-}
-
-fn wide(x: u8) -> u32
-    ensures { (result ≡ x) × (result < 256) }
-{
-    x as u32
+    (2..count).find(|&k| record_at(table, k).period < record_at(table, k - 1).period)
 }

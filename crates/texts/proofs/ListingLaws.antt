@@ -1,25 +1,25 @@
 -- A listing has a line for at most 16 tasks, and a line has at most 77 bytes: so it fits its page.
-use Prim.Native.Nat.{ℕ, zero, suc, ◌+◌, ◌-◌, ◌*◌, ◌/◌, ◌%◌, ◌≤◌}
+use Rattle.std.specs.Prelude.{Result, Ok, Err}
+use Prim.Native.Nat.{ℕ, zero, suc, ◌+◌, ◌-◌, ◌*◌, ◌/◌, ◌%◌, ◌≤◌, ◌<◌}
 use mathlib.Core.Path.{◌≡◌, refl}
 use mathlib.Core.List.{List, [], ◌∷◌, ◌++◌}
 use mathlib.Core.Bool.{Bool, true, false, cond}
 use native.Mathlib.Omega.{arith}
 use lib.Dec.{ltb}
 use lib.ListN.{length, get_or, take, length-append}
+use Rattle.std.proofs.lemmas.List.{get_or-take, length-take, length-take-le}
+use Rattle.table.specs.declared.Refusal.{Refusal}
 use Rattle.table.specs.declared.Record.{Record}
-use Rattle.table.specs.declared.Reading.{Reading}
-use Rattle.table.specs.declared.Reading.TheVariants as read
 use Rattle.table.specs.Bytes.{record_at}
 use Rattle.table.specs.Refusals.{told_of, search_gives}
 use Rattle.table.specs.Sound.{places, read_of}
 use Rattle.table.specs.Set.{rules_of}
 use Rattle.table.proofs.SetLaws.{read_set}
 use Rattle.table.proofs.SoundLaws.{reading_has}
-use Rattle.admission.specs.declared.Answer.{Answer}
-use Rattle.admission.specs.declared.Answer.TheVariants.{Admitted, Refused}
+use Rattle.admission.specs.declared.Row.{Row}
 use Rattle.admission.specs.declared.Verdict.{Verdict}
 use Rattle.admission.specs.Says.{Judged, admitted, refused}
-use Rattle.admission.specs.Verdicts.{admit_of}
+use Rattle.admission.specs.Verdicts.{no_row, admit_of}
 use Rattle.admission.proofs.AdmitLaws.{admit_says}
 use Rattle.texts.specs.Pages.{room, blank, shown}
 use Rattle.texts.specs.Listing.{digits, field_of, header, line_of, lines_of, rows_shown, last_of, listing_of}
@@ -29,8 +29,8 @@ use Rattle.texts.proofs.PageLaws.{blank_whole, shown_says}
 pub rows_few : (bytes : List ℕ) → rows_shown (admit_of bytes).answer ≤ places
 rows_few bytes = go (read_of bytes) refl
   where
-    go : (r : Reading) → read_of bytes ≡ r → rows_shown (admit_of bytes).answer ≤ places
-    go (read.Sound n) e = by_verdict (admit_says bytes n e)
+    go : (r : Result ℕ Refusal) → read_of bytes ≡ r → rows_shown (admit_of bytes).answer ≤ places
+    go (Ok n) e = by_verdict (admit_says bytes n e)
       where
         few : n ≤ places
         few = (read_set bytes n e).few
@@ -38,9 +38,17 @@ rows_few bytes = go (read_of bytes) refl
         by_verdict : Judged (rules_of bytes) n (admit_of bytes) → rows_shown (admit_of bytes).answer ≤ places
         by_verdict (admitted a A) = rw a few
         by_verdict (refused f k l a P A) = let p : f + 1 - 1 ≤ places = omega (arith, few) in rw a p
-    go (read.Refused refusal) e =
+    go (Err refusal) e =
         let none : search_gives refusal ≡ false = reading_has (λ r. search_gives r ≡ false) refl (λ k. refl) (λ k. refl) refl bytes refusal e in
         rw (e, none) (omega arith)
+
+-- The first n of so many rows or more are n rows.
+pub rows_taken : (n : ℕ) (rows : List Row) → n ≤ length rows → length (take n rows) ≡ n
+rows_taken = length-take-le
+
+-- Each of the first n rows is the row that stands there.
+pub row_taken : (n : ℕ) (rows : List Row) (i : ℕ) (d : Row) → i < length (take n rows) → get_or (take n rows) i d ≡ get_or rows i d
+row_taken n rows i d l = get_or-take n rows i d (omega (arith, length-take n rows))
 
 -- No number has more digits than the f that are asked for, which are ten for a decimal.
 decimal_short : (f n : ℕ) → length (digits f n) ≤ f
@@ -58,17 +66,17 @@ unfolding field_of
 field_short n = simp length-append (omega (arith, decimal_short 10 n))
 
 -- No line has more than 77 bytes.
-line_short : (i : ℕ) (task : Record) (w f k : ℕ) → length (line_of i task w f k) ≤ 77
+line_short : (i : ℕ) (task : Record) (row : Row) → length (line_of i task row) ≤ 77
 unfolding line_of
-line_short i task w f k = simp length-append (omega (
+line_short i task row = simp length-append (omega (
   arith,
   field_short (i + 1),
   field_short task.label,
   field_short task.work,
   field_short task.period,
-  field_short w,
-  field_short f,
-  decimal_short 10 k,
+  field_short row.window,
+  field_short row.figure,
+  decimal_short 10 row.rounds,
 ))
 
 -- The lines of n tasks have at most 77 * n bytes.
@@ -79,13 +87,13 @@ lines_short table v (suc n) =
     simp length-append (omega (
       arith,
       lines_short table v n,
-      line_short n (record_at table (n + 1)) (get_or v.windows n 0) (get_or v.figures n 0) (get_or v.rounds n 0),
+      line_short n (record_at table (n + 1)) (get_or v.rows n no_row),
     ))
 
 -- The last line has at most 30 bytes.
-last_short : (a : Answer) → length (last_of a) ≤ 30
-last_short (Admitted n) = simp length-append (omega (arith, decimal_short 10 n))
-last_short (Refused r) = simp length-append (omega (arith, field_short (told_of r).number, decimal_short 10 (told_of r).place))
+last_short : (a : Result ℕ Refusal) → length (last_of a) ≤ 30
+last_short (Ok n) = simp length-append (omega (arith, decimal_short 10 n))
+last_short (Err r) = simp length-append (omega (arith, field_short (told_of r).number, decimal_short 10 (told_of r).place))
 
 header_length : length header ≡ 46
 unfolding header

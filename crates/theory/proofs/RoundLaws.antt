@@ -3,6 +3,7 @@ use Prim.Native.Nat.{ℕ, suc, ◌+◌, ◌-◌, ◌*◌, ◌/◌, ◌%◌, min,
 use mathlib.Core.Path.{◌≡◌, ap}
 use native.Mathlib.Omega.{arith, both_ways}
 use native.Mathlib.Nat.{div-mul-le_self, lt-div-mul-add, div-add-mod', mod-lt, div-eq_of_lt-le, lt_of_mul-lt-mul_right, mul-le-mul_right, div-eq_of_lt, mod-eq_of_lt, le_of_mul-le-mul_right}
+use Rattle.std.proofs.lemmas.Grind.{div_ceil_times}
 use Rattle.base.proofs.Split.{by_lt}
 use Rattle.theory.specs.Round.{ceil}
 
@@ -93,3 +94,12 @@ slots_all h s x p l q =
     (ceil_least (suc x) h (suc (x / h)) p (omega (arith, lt-div-mul-add {a = x} {b = h} p)))
     (ceil_past (suc x) h (x / h) p (omega (arith, div-mul-le_self x h))) in
     omega (arith, slots_other h s x p l q, slots_full h s x q, ap (λ (k : ℕ). k * s) e)
+
+-- The quotient, with one more where something is left over, is the quotient rounded up.
+pub div_ceil_is : (a b : ℕ) → 1 ≤ b → a / b + min 1 (a % b) ≡ ceil a b
+div_ceil_is a b h =
+    let t = div_ceil_times a b (omega arith) in
+    let up : ceil a b ≤ a / b + min 1 (a % b) = ceil_least a b (a / b + min 1 (a % b)) h t.0 in
+    let low : a / b + min 1 (a % b) < suc (ceil a b) =
+    lt_of_mul-lt-mul_right b {m = a / b + min 1 (a % b)} {n = suc (ceil a b)} (omega (arith, t.1, ceil_up a b h)) in
+    omega arith

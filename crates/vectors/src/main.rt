@@ -2,25 +2,88 @@
 // at small inputs with what came back, and a state for every rule of RULES 4.
 #![tactic(auto)]
 
-ghost use Rattle.std.specs.Prelude.{◌≡◌};
+ghost use Rattle.std.specs.Prelude.{◌≡◌, ◌≤◌};
 ghost use Rattle.scheduler.specs.Steps.{step_of};
 
-use decisions::{Answer, Entry, Job, Last, Tally, Tick, energy};
-use scheduler::{Moved, State, Ticked, release, start, step};
-use std::io;
-use table::{Record, tell};
+use decisions::{Entry, Job, Powers, Tally, Tick, energy, nanojoules};
+use scheduler::{Moved, State, release, start, step};
+use std::{array, fmt, io};
+use table::{RECORD_BYTES, Record, Refusal, Told, record_bytes};
 
-// The tables are the house table and the source's Figure 3 set, as in tables/.
-const HOUSE: [u8; 80] =
-    *b"\x0a\0\0\0\x08\0\0\0\x14\0\0\0\0\0\0\0\x0b\0\0\0\x02\0\0\0\x14\0\0\0\0\0\0\0\x0c\0\0\0\x03\0\0\0\x32\0\0\0\0\0\0\0\x0d\0\0\0\x02\0\0\0\x64\0\0\0\0\0\0\0\x0e\0\0\0\x04\0\0\0\xc8\0\0\0\0\0\0\0";
+// Nothing compares the types of this program, and those that are printed have Display.
 
-const FIGURE_3: [u8; 64] =
-    *b"\0\0\0\0\x07\0\0\0\x0a\0\0\0\0\0\0\0\x01\0\0\0\x01\0\0\0\x0a\0\0\0\0\0\0\0\x02\0\0\0\x01\0\0\0\x0f\0\0\0\0\0\0\0\x03\0\0\0\x02\0\0\0\x1a\0\0\0\0\0\0\0";
+// A pattern releases task 1 at tick `first` and every period after, the others at `others`.
+#[derive(Clone, Copy)]
+struct Pattern {
+    first: u32,
+    others: u32,
+}
+
+// The house table's H is 20.
+const WORST: Pattern = Pattern {
+    first: 20,
+    others: 1,
+};
+
+const AT_ONCE: Pattern = Pattern {
+    first: 0,
+    others: 0,
+};
+
+// A run has come to a state and a tally.
+#[derive(Clone, Copy)]
+struct Ran {
+    state: State,
+    tally: Tally,
+}
+
+// A reply is the answer of a start, a release or an energy reading.
+#[derive(Clone, Copy)]
+struct Reply(Result<(), Refusal>);
+
+impl fmt::Display for Reply {
+    fn fmt<W: fmt::Write>(&self, f: &mut fmt::Formatter<W>) -> fmt::Result {
+        match self.0.map_err(Told::from) {
+            Ok(()) => write!(f, "accepted"),
+            Err(told) => write!(f, "refused {} {}", told.number, told.place),
+        }
+    }
+}
+
+// An outcome is a step's answer: what its tick was, or the number of the refusal.
+#[derive(Clone, Copy)]
+struct Outcome(Result<Tick, Refusal>);
+
+impl fmt::Display for Outcome {
+    fn fmt<W: fmt::Write>(&self, f: &mut fmt::Formatter<W>) -> fmt::Result {
+        match self.0.map_err(Told::from) {
+            Ok(Tick::Run(task)) => write!(f, "run {task}"),
+            Ok(Tick::Slot) => write!(f, "slot"),
+            Ok(Tick::Tail) => write!(f, "tail"),
+            Err(told) => write!(f, "refused {}", told.number),
+        }
+    }
+}
+
+// A sign is a step's answer: z for slot, a dot for tail, a task's number for its run.
+#[derive(Clone, Copy)]
+struct Sign(Result<Tick, Refusal>);
+
+impl fmt::Display for Sign {
+    fn fmt<W: fmt::Write>(&self, f: &mut fmt::Formatter<W>) -> fmt::Result {
+        match self.0 {
+            Ok(Tick::Run(task)) => write!(f, "{task}"),
+            Ok(Tick::Slot) => write!(f, "z"),
+            Ok(Tick::Tail) => write!(f, "."),
+            Err(_) => write!(f, "!"),
+        }
+    }
+}
 
 fn main(rt: HostRuntime) -> io::Result<()> {
     starts(&rt)?;
     case_j(&rt)?;
-    figure_3(&rt)?;
+    case_f(&rt)?;
     releases(&rt)?;
     ends(&rt)?;
     tables(&rt)?;
@@ -34,139 +97,233 @@ fn main(rt: HostRuntime) -> io::Result<()> {
 // Starts are shown here with V up to S and above it, where the refusals of the table come first, and
 // what a refused one's state gets.
 fn starts(rt: &impl Print) -> io::Result<()> {
-    say(rt, b"starts\n")?;
-    began(rt, b"V = 0", &HOUSE, 0)?;
-    began(rt, b"V = S", &HOUSE, 8)?;
-    began(rt, b"V = S + 1", &HOUSE, 9)?;
-    began(rt, b"V = 4,294,967,295", &HOUSE, 4294967295)?;
-    began(rt, b"79 bytes", &HOUSE[..79], 0)?;
-    began(rt, b"79 bytes, V = S + 1", &HOUSE[..79], 9)?;
-    let broken = edited(68, 0);
-    began(rt, b"C = 0 in task 4, V = S + 1", &broken, 9)?;
-    let falling = edited(56, 49);
-    began(
+    println!(rt; "starts")?;
+    let table = table_of(&house());
+    let house = table.as_flattened();
+    began(rt, "V = 0", house, 0)?;
+    began(rt, "V = S", house, 8)?;
+    began(rt, "V = S + 1", house, 9)?;
+    began(rt, "V = 4,294,967,295", house, 4294967295)?;
+    if let [short @ .., _] = house {
+        began(rt, "79 bytes", short, 0)?;
+        began(rt, "79 bytes, V = S + 1", short, 9)?;
+    }
+    began_edited(
         rt,
-        b"period of task 3 below task 2's, V = S + 1",
-        &falling,
+        "C = 0 in task 4, V = S + 1",
         9,
+        |records| records[4].work = 0,
     )?;
-    let sleepy = edited(4, 20);
-    began(rt, b"S = H, V = S + 1", &sleepy, 21)?;
-    let uneven = edited(24, 30);
-    began(rt, b"period 1 no multiple of H, V = S + 1", &uneven, 9)?;
-    say(rt, b"a refused start's state\n")?;
-    let none = start(&HOUSE, 9);
-    let state = none.state;
-    stepped(rt, state, 0, 0, 0, 0)?;
-    asked(rt, state, 2, 1)
+    began_edited(
+        rt,
+        "period of task 3 below task 2's, V = S + 1",
+        9,
+        |records| records[3].period = 49,
+    )?;
+    began_edited(rt, "S = H, V = S + 1", 21, |records| records[0].work = 20)?;
+    began_edited(rt, "period 1 no multiple of H, V = S + 1", 9, |records| {
+        records[1].period = 30
+    })?;
+    println!(rt; "a refused start's state")?;
+    let none = start(house, 9);
+    stepped(rt, none.state, [0, 0, 0, 0])?;
+    asked(rt, none.state, 2, 1)
+}
+
+// The house table is edited before its start.
+fn began_edited<F: FnOnce(&mut [Record; 5])>(
+    rt: &impl Print,
+    name: &str,
+    waking: u32,
+    edit: F,
+) -> io::Result<()>
+    requires { F.IsAlwaysCallable edit }
+{
+    let mut records = house();
+    edit(&mut records);
+    began(rt, name, table_of(&records).as_flattened(), waking)
 }
 
 // A start writes its answer and its state.
-fn began(rt: &impl Print, name: &[u8], table: &[u8], waking: u32) -> io::Result<()> {
-    say(rt, name)?;
-    say(rt, b": ")?;
+fn began(rt: &impl Print, name: &str, table: &[u8], waking: u32) -> io::Result<()> {
     let begun = start(table, waking);
-    let answer = begun.answer;
-    let state = begun.state;
-    answered(rt, answer)?;
-    shown(rt, state)
+    let s = begun.state;
+    println!(rt; "{name}: {}", Reply(begun.answer))?;
+    println!(rt;
+        "n {} clock {} V {} sum {}",
+        s.n,
+        s.clock,
+        s.waking,
+        sum(&s)
+    )
 }
 
-// The house table has another byte at one place.
-fn edited(at: usize, byte: u8) -> [u8; 80] {
-    let mut table = HOUSE;
-    if at < 80 {
-        table[at] = byte;
+// The tables are the house table and the source's Figure 3 set, as in tables/.
+fn house() -> [Record; 5] {
+    [
+        record(10, 8, 20),
+        record(11, 2, 20),
+        record(12, 3, 50),
+        record(13, 2, 100),
+        record(14, 4, 200),
+    ]
+}
+
+fn figure_3() -> [Record; 4] {
+    [
+        record(0, 7, 10),
+        record(1, 1, 10),
+        record(2, 1, 15),
+        record(3, 2, 26),
+    ]
+}
+
+fn record(label: u32, work: u32, period: u32) -> Record {
+    Record {
+        label,
+        work,
+        period,
+        reserved: 0,
     }
-    table
+}
+
+fn table_of<const N: usize>(records: &[Record; N]) -> [[u8; RECORD_BYTES]; N] {
+    array::from_fn(|i| record_bytes(records[i]))
+}
+
+fn words_of(r: Record) -> [u32; 4] {
+    [r.label, r.work, r.period, r.reserved]
 }
 
 // Case J runs the worst pattern on the house table for 40 ticks, with its tally and its energy. V
 // takes ticks from one count to another, and no tick changes.
 fn case_j(rt: &impl Print) -> io::Result<()> {
-    say(rt, b"J\n")?;
-    let ran = run_of(rt, &HOUSE, 0, 40, 20, 1, Written::Ticks)?;
-    booked(rt, ran)?;
-    woken_j(rt, 2)?;
-    woken_j(rt, 8)
+    println!(rt; "J")?;
+    let ran = run_of(
+        rt,
+        house(),
+        0,
+        40,
+        WORST,
+        |t, _, moved| println!(rt; "{t} {} ", Outcome(moved.answer)),
+    )?;
+    booked(rt, ran.tally)?;
+    for waking in [2, 8] {
+        println!(rt; "J, V = {waking}")?;
+        let ran = run_of(
+            rt,
+            house(),
+            waking,
+            40,
+            WORST,
+            |_, _, moved| print!(rt; "{}", Sign(moved.answer)),
+        )?;
+        println!(rt)?;
+        booked(rt, ran.tally)?;
+    }
+    Ok(())
 }
 
-fn woken_j(rt: &impl Print, waking: u32) -> io::Result<()> {
-    say(rt, b"J, V = ")?;
-    line(rt, waking)?;
-    let ran = run_of(rt, &HOUSE, waking, 40, 20, 1, Written::Drawn)?;
-    say(rt, b"\n")?;
-    booked(rt, ran)
-}
-
-fn booked(rt: &impl Print, ran: Ran) -> io::Result<()> {
-    let tally = ran.tally;
+fn booked(rt: &impl Print, tally: Tally) -> io::Result<()> {
     counted(rt, tally)?;
-    consumed(rt, tally, 23000, 16, 9000)
+    consumed(rt, tally, [23000, 16, 9000])
 }
 
 // F's set runs with every task released from tick 0 at its period: what is refused and what
 // finishes is written.
-fn figure_3(rt: &impl Print) -> io::Result<()> {
-    say(rt, b"F\n")?;
-    let ran = run_of(rt, &FIGURE_3, 0, 90, 0, 0, Written::Finishes)?;
-    let tally = ran.tally;
-    counted(rt, tally)
+fn case_f(rt: &impl Print) -> io::Result<()> {
+    println!(rt; "F")?;
+    let ran = run_of(
+        rt,
+        figure_3(),
+        0,
+        90,
+        AT_ONCE,
+        |_, before, moved| finished(rt, before, moved),
+    )?;
+    counted(rt, ran.tally)
+}
+
+// A task that the tick left without work finished its job.
+fn finished(rt: &impl Print, before: &State, moved: &Moved) -> io::Result<()> {
+    let after = &moved.state;
+    if let Ok(Tick::Run(task)) = moved.answer
+        && let Some(at) = (task as usize).checked_sub(1)
+        && let (Some(e), Some(f)) = (before.entries.get(at), after.entries.get(at))
+        && let (Job::Working { release, left: _ }, Job::Resting) = (e.job, f.job)
+    {
+        println!(rt;
+            "task {task} released at {release} finishes at {}",
+            after.clock
+        )?;
+    }
+    Ok(())
 }
 
 // Refusals 8 to 12 are tried here, each where it alone applies and with its neighbours, and what is
 // accepted beside them; the lowest number is given where several apply.
 fn releases(rt: &impl Print) -> io::Result<()> {
-    say(rt, b"releases at 30: task 1 rests, 2 to 4 work\n")?;
+    println!(rt; "releases at 30: task 1 rests, 2 to 4 work")?;
     let s = house_at(rt, 30)?;
-    asked(rt, s, 0, 1)?;
-    asked(rt, s, 5, 1)?;
-    asked(rt, s, 4294967295, 1)?;
-    asked(rt, s, 0, 0)?;
-    asked(rt, s, 2, 0)?;
-    asked(rt, s, 2, 4)?;
-    asked(rt, s, 2, 4294967295)?;
-    asked(rt, s, 1, 3)?;
-    asked(rt, s, 1, 1)?;
-    asked(rt, s, 2, 1)?;
-    asked(rt, s, 4, 4)?;
-    say(
-        rt,
-        b"releases at 51: task 1 rests since 20, 2 works since 1\n",
-    )?;
-    asked(rt, clocked(s, 51), 1, 2)?;
-    asked(rt, clocked(s, 51), 2, 3)?;
-    say(rt, b"releases at 40: task 1 came now, the others rest\n")?;
+    for (task, demand) in [
+        (0, 1),
+        (5, 1),
+        (4294967295, 1),
+        (0, 0),
+        (2, 0),
+        (2, 4),
+        (2, 4294967295),
+        (1, 3),
+        (1, 1),
+        (2, 1),
+        (4, 4),
+    ] {
+        asked(rt, s, task, demand)?;
+    }
+    println!(rt; "releases at 51: task 1 rests since 20, 2 works since 1")?;
+    let s = State { clock: 51, ..s };
+    asked(rt, s, 1, 2)?;
+    asked(rt, s, 2, 3)?;
+    println!(rt; "releases at 40: task 1 came now, the others rest")?;
     let s = house_at(rt, 40)?;
     asked(rt, s, 1, 2)?;
     asked(rt, s, 2, 3)?;
     asked(rt, s, 1, 0)?;
-    say(
-        rt,
-        b"releases at 50 and 51: task 2 came at 1, its period is 50\n",
-    )?;
-    asked(rt, clocked(s, 50), 2, 3)?;
-    asked(rt, clocked(s, 51), 2, 3)?;
-    asked(rt, clocked(s, 51), 2, 4)?;
-    asked(rt, clocked(s, 51), 2, 0)?;
-    asked(rt, clocked(s, 51), 1, 2)?;
-    asked(rt, clocked(s, 51), 4, 4)
+    println!(rt; "releases at 50 and 51: task 2 came at 1, its period is 50")?;
+    asked(rt, State { clock: 50, ..s }, 2, 3)?;
+    let s = State { clock: 51, ..s };
+    asked(rt, s, 2, 3)?;
+    asked(rt, s, 2, 4)?;
+    asked(rt, s, 2, 0)?;
+    asked(rt, s, 1, 2)?;
+    asked(rt, s, 4, 4)
 }
 
 // The last clock is tried here, also in a state that breaks a rule.
 fn ends(rt: &impl Print) -> io::Result<()> {
-    say(rt, b"the clock's end\n")?;
-    let begun = start(&HOUSE, 0);
-    let s = begun.state;
-    let last = clocked(s, 999999999);
-    let over = clocked(s, 1000000000);
-    let past = clocked(s, 1000000001);
-    let broken = slept(over, record(10, 0, 20, 0));
-    stepped(rt, last, 0, 0, 999999999, 0)?;
-    stepped(rt, over, 0, 0, 1000000000, 0)?;
-    stepped(rt, over, 0, 0, 999999999, 0)?;
-    stepped(rt, past, 0, 0, 1000000001, 0)?;
-    stepped(rt, broken, 0, 0, 1000000000, 0)?;
+    println!(rt; "the clock's end")?;
+    let s = start(table_of(&house()).as_flattened(), 0).state;
+    let last = State {
+        clock: 999999999,
+        ..s
+    };
+    let over = State {
+        clock: 1000000000,
+        ..s
+    };
+    let past = State {
+        clock: 1000000001,
+        ..s
+    };
+    let broken = State {
+        sleep: Record { work: 0, ..s.sleep },
+        ..over
+    };
+    stepped(rt, last, [0, 0, 999999999, 0])?;
+    stepped(rt, over, [0, 0, 1000000000, 0])?;
+    stepped(rt, over, [0, 0, 999999999, 0])?;
+    stepped(rt, past, [0, 0, 1000000001, 0])?;
+    stepped(rt, broken, [0, 0, 1000000000, 0])?;
     asked(rt, last, 2, 3)?;
     asked(rt, over, 2, 3)?;
     asked(rt, over, 0, 0)?;
@@ -180,328 +337,320 @@ fn ends(rt: &impl Print) -> io::Result<()> {
 fn tables(rt: &impl Print) -> io::Result<()> {
     let s = house_at(rt, 30)?;
     let z = s.sleep;
-    let none = start(&HOUSE[..79], 0);
-    let empty = none.state;
-    tried(rt, b"as it is", s)?;
-    tried(rt, b"n = 0", slept(clocked(empty, 30), z))?;
-    tried(rt, b"n = 0, tasks in spare places", sized(s, 0))?;
-    tried(rt, b"n = 3, a task in a spare place", sized(s, 3))?;
-    tried(rt, b"n = 5, a spare place for a task", sized(s, 5))?;
-    tried(rt, b"n = 16", sized(filled(s), 16))?;
-    tried(rt, b"n = 17", sized(filled(s), 17))?;
-    tried(rt, b"S = 0", slept(s, record(z.label, 0, 20, 0)))?;
-    tried(rt, b"S = 0, H = 0", slept(s, record(z.label, 0, 0, 0)))?;
-    tried(rt, b"S above H", slept(s, record(z.label, 21, 20, 0)))?;
-    tried(rt, b"S = H", slept(s, record(z.label, 20, 20, 0)))?;
-    tried(rt, b"S = H - 1", slept(s, record(z.label, 19, 20, 0)))?;
-    tried(rt, b"H = 60,001", slept(s, record(z.label, 8, 60001, 0)))?;
-    tried(rt, b"sleep reserved 1", slept(s, record(z.label, 8, 20, 1)))?;
+    let slept = |sleep| State { sleep, ..s };
+    let empty = start(&[], 0).state;
+    tried(rt, "as it is", s)?;
     tried(
         rt,
-        b"another label in the sleep record",
-        slept(s, record(99, 8, 20, 0)),
+        "n = 0",
+        State {
+            clock: 30,
+            sleep: z,
+            ..empty
+        },
+    )?;
+    tried(rt, "n = 0, tasks in spare places", State { n: 0, ..s })?;
+    tried(rt, "n = 3, a task in a spare place", State { n: 3, ..s })?;
+    tried(rt, "n = 5, a spare place for a task", State { n: 5, ..s })?;
+    tried(rt, "n = 16", State { n: 16, ..filled(s) })?;
+    tried(rt, "n = 17", State { n: 17, ..filled(s) })?;
+    tried(rt, "S = 0", slept(Record { work: 0, ..z }))?;
+    tried(
+        rt,
+        "S = 0, H = 0",
+        slept(Record {
+            work: 0,
+            period: 0,
+            ..z
+        }),
+    )?;
+    tried(rt, "S above H", slept(Record { work: 21, ..z }))?;
+    tried(rt, "S = H", slept(Record { work: 20, ..z }))?;
+    tried(rt, "S = H - 1", slept(Record { work: 19, ..z }))?;
+    tried(rt, "H = 60,001", slept(Record { period: 60001, ..z }))?;
+    tried(rt, "sleep reserved 1", slept(Record { reserved: 1, ..z }))?;
+    tried(
+        rt,
+        "another label in the sleep record",
+        slept(Record { label: 99, ..z }),
+    )?;
+    let short = slept(Record {
+        work: 2,
+        period: 7,
+        ..z
+    });
+    tried(
+        rt,
+        "H = 7: period 1 no multiple",
+        edited(short, 0, |e| e.last = None),
     )?;
     tried(
         rt,
-        b"H = 7: period 1 no multiple",
-        slept(lasted(s, 0, Last::Never), record(z.label, 2, 7, 0)),
+        "H = 10: period 1 a multiple",
+        slept(Record { period: 10, ..z }),
     )?;
     tried(
         rt,
-        b"H = 10: period 1 a multiple",
-        slept(s, record(z.label, 8, 10, 0)),
+        "C = 0 in task 4",
+        edited(s, 3, |e| {
+            e.task.work = 0;
+            e.job = Job::Resting;
+        }),
+    )?;
+    tried(rt, "C = T in task 4", edited(s, 3, |e| e.task.work = 200))?;
+    tried(
+        rt,
+        "C above T in task 4",
+        edited(s, 3, |e| e.task.work = 201),
     )?;
     tried(
         rt,
-        b"C = 0 in task 4",
-        tasked(lasted(s, 3, Last::At(1)), 3, record(14, 0, 200, 0)),
+        "T = 60,001 in task 4",
+        edited(s, 3, |e| e.task.period = 60001),
     )?;
     tried(
         rt,
-        b"C = T in task 4",
-        tasked(s, 3, record(14, 200, 200, 0)),
+        "T = 60,000 in task 4",
+        edited(s, 3, |e| e.task.period = 60000),
     )?;
     tried(
         rt,
-        b"C above T in task 4",
-        tasked(s, 3, record(14, 201, 200, 0)),
+        "reserved 1 in task 4",
+        edited(s, 3, |e| e.task.reserved = 1),
     )?;
     tried(
         rt,
-        b"T = 60,001 in task 4",
-        tasked(s, 3, record(14, 4, 60001, 0)),
+        "period of task 4 below task 3's",
+        edited(s, 3, |e| e.task.period = 99),
     )?;
     tried(
         rt,
-        b"T = 60,000 in task 4",
-        tasked(s, 3, record(14, 4, 60000, 0)),
-    )?;
-    tried(
-        rt,
-        b"reserved 1 in task 4",
-        tasked(s, 3, record(14, 4, 200, 1)),
-    )?;
-    tried(
-        rt,
-        b"period of task 4 below task 3's",
-        tasked(s, 3, record(14, 4, 99, 0)),
-    )?;
-    tried(
-        rt,
-        b"period of task 4 equal to task 3's",
-        tasked(s, 3, record(14, 4, 100, 0)),
+        "period of task 4 equal to task 3's",
+        edited(s, 3, |e| e.task.period = 100),
     )
 }
 
-// States that break the rules of jobs and last releases are tried here.
+// States that break the rules of jobs and last releases are tried here. Task 1 stands at place 0.
 fn entries(rt: &impl Print) -> io::Result<()> {
     let s = house_at(rt, 30)?;
+    let rests = |i, last| {
+        edited(s, i, |e| {
+            e.job = Job::Resting;
+            e.last = last;
+        })
+    };
+    let works = |i, release, left, last| {
+        edited(s, i, |e| {
+            e.job = Job::Working { release, left };
+            e.last = last;
+        })
+    };
     tried(
         rt,
-        b"task 1 last released after the clock",
-        lasted(s, 0, Last::At(40)),
+        "task 1 last released after the clock",
+        rests(0, Some(40)),
     )?;
     tried(
         rt,
-        b"task 1 last released off a boundary",
-        lasted(s, 0, Last::At(21)),
+        "task 1 last released off a boundary",
+        rests(0, Some(21)),
     )?;
-    tried(rt, b"task 1 last released at 0", lasted(s, 0, Last::At(0)))?;
+    tried(rt, "task 1 last released at 0", rests(0, Some(0)))?;
     tried(
         rt,
-        b"task 1 at work since off a boundary",
-        worked(s, 0, 21, 1, Last::At(21)),
-    )?;
-    tried(
-        rt,
-        b"task 1 at work since a boundary",
-        worked(s, 0, 20, 1, Last::At(20)),
+        "task 1 at work since off a boundary",
+        works(0, 21, 1, Some(21)),
     )?;
     tried(
         rt,
-        b"task 2 at work since after the clock",
-        worked(s, 1, 31, 1, Last::At(31)),
+        "task 1 at work since a boundary",
+        works(0, 20, 1, Some(20)),
     )?;
     tried(
         rt,
-        b"task 2 at work since now",
-        worked(s, 1, 30, 1, Last::At(30)),
+        "task 2 at work since after the clock",
+        works(1, 31, 1, Some(31)),
+    )?;
+    tried(rt, "task 2 at work since now", works(1, 30, 1, Some(30)))?;
+    tried(rt, "task 2 with nothing left", works(1, 1, 0, Some(1)))?;
+    tried(rt, "task 2 with C left", works(1, 1, 3, Some(1)))?;
+    tried(rt, "task 2 with C + 1 left", works(1, 1, 4, Some(1)))?;
+    tried(
+        rt,
+        "task 2 released at 1, last release 2",
+        works(1, 1, 2, Some(2)),
     )?;
     tried(
         rt,
-        b"task 2 with nothing left",
-        worked(s, 1, 1, 0, Last::At(1)),
-    )?;
-    tried(rt, b"task 2 with C left", worked(s, 1, 1, 3, Last::At(1)))?;
-    tried(
-        rt,
-        b"task 2 with C + 1 left",
-        worked(s, 1, 1, 4, Last::At(1)),
+        "task 2 at work and never released",
+        works(1, 1, 2, None),
     )?;
     tried(
         rt,
-        b"task 2 released at 1, last release 2",
-        worked(s, 1, 1, 2, Last::At(2)),
+        "task 4 rests, last released after the clock",
+        rests(3, Some(31)),
     )?;
-    tried(
-        rt,
-        b"task 2 at work and never released",
-        worked(s, 1, 1, 2, Last::Never),
-    )?;
-    tried(
-        rt,
-        b"task 4 rests, last released after the clock",
-        lasted(s, 3, Last::At(31)),
-    )?;
-    tried(
-        rt,
-        b"task 4 rests and was never released",
-        lasted(s, 3, Last::Never),
-    )
+    tried(rt, "task 4 rests and was never released", rests(3, None))
 }
 
 // Spare places that are not zero, at rest and never released are tried here.
 fn spares(rt: &impl Print) -> io::Result<()> {
     let s = house_at(rt, 30)?;
-    let nothing = record(0, 0, 0, 0);
     tried(
         rt,
-        b"a spare place with a label",
-        tasked(s, 15, record(1, 0, 0, 0)),
+        "a spare place with a label",
+        edited(s, 15, |e| e.task.label = 1),
     )?;
     tried(
         rt,
-        b"a spare place with work",
-        tasked(s, 4, record(0, 1, 0, 0)),
+        "a spare place with work",
+        edited(s, 4, |e| e.task.work = 1),
     )?;
     tried(
         rt,
-        b"a spare place with a period",
-        tasked(s, 4, record(0, 0, 1, 0)),
+        "a spare place with a period",
+        edited(s, 4, |e| e.task.period = 1),
     )?;
     tried(
         rt,
-        b"a spare place with a reserved field",
-        tasked(s, 4, record(0, 0, 0, 1)),
+        "a spare place with a reserved field",
+        edited(s, 4, |e| e.task.reserved = 1),
     )?;
     tried(
         rt,
-        b"a spare place released at 0",
-        lasted(s, 4, Last::At(0)),
+        "a spare place released at 0",
+        edited(s, 4, |e| e.last = Some(0)),
     )?;
     tried(
         rt,
-        b"a spare place at work",
-        worked(s, 15, 0, 1, Last::Never),
+        "a spare place at work",
+        edited(s, 15, |e| {
+            e.job = Job::Working {
+                release: 0,
+                left: 1,
+            }
+        }),
     )?;
-    tried(
-        rt,
-        b"spare places as they should be",
-        tasked(s, 15, nothing),
-    )
+    tried(rt, "spare places as they should be", s)
 }
 
 // States with a V up to S and above it are tried here, and which ticks raise the waking count: with
 // V = 2, S = 8 and H = 20 the slot ticks with t mod H = 6 and 7.
 fn wakings(rt: &impl Print) -> io::Result<()> {
     let s = house_at(rt, 30)?;
-    tried(rt, b"V = S", woken(s, 8))?;
-    tried(rt, b"V = S + 1", woken(s, 9))?;
-    tried(rt, b"V = 4,294,967,295", woken(s, 4294967295))?;
-    say(rt, b"V = 2, at 25 to 28\n")?;
-    let s = woken(house_at(rt, 20)?, 2);
-    stepped(rt, clocked(s, 25), 0, 11, 12, 2)?;
-    stepped(rt, clocked(s, 26), 0, 12, 12, 2)?;
-    stepped(rt, clocked(s, 27), 0, 12, 12, 3)?;
-    stepped(rt, clocked(s, 28), 0, 12, 12, 4)
+    tried(rt, "V = S", State { waking: 8, ..s })?;
+    tried(rt, "V = S + 1", State { waking: 9, ..s })?;
+    tried(
+        rt,
+        "V = 4,294,967,295",
+        State {
+            waking: 4294967295,
+            ..s
+        },
+    )?;
+    println!(rt; "V = 2, at 25 to 28")?;
+    let s = State {
+        waking: 2,
+        ..house_at(rt, 20)?
+    };
+    stepped(rt, State { clock: 25, ..s }, [0, 11, 12, 2])?;
+    stepped(rt, State { clock: 26, ..s }, [0, 12, 12, 2])?;
+    stepped(rt, State { clock: 27, ..s }, [0, 12, 12, 3])?;
+    stepped(rt, State { clock: 28, ..s }, [0, 12, 12, 4])
 }
 
 // Tallies that do not sum to the clock are tried here: each count off by one, and sums that pass 32
 // bits, the first three of which leave 30 there.
 fn tallies(rt: &impl Print) -> io::Result<()> {
-    say(rt, b"V = 2, tallies at 30\n")?;
-    let s = woken(house_at(rt, 30)?, 2);
-    stepped(rt, s, 2, 12, 12, 4)?;
-    stepped(rt, s, 3, 12, 12, 4)?;
-    stepped(rt, s, 2, 11, 12, 4)?;
-    stepped(rt, s, 2, 12, 13, 4)?;
-    stepped(rt, s, 2, 12, 12, 3)?;
-    stepped(rt, s, 4294967295, 15, 12, 4)?;
-    stepped(rt, s, 2, 12, 17, 4294967295)?;
-    stepped(rt, s, 4294967295, 4294967295, 4294967295, 33)?;
-    stepped(rt, s, 4294967295, 4294967295, 4294967295, 4294967295)
+    println!(rt; "V = 2, tallies at 30")?;
+    let s = State {
+        waking: 2,
+        ..house_at(rt, 30)?
+    };
+    for counts in [
+        [2, 12, 12, 4],
+        [3, 12, 12, 4],
+        [2, 11, 12, 4],
+        [2, 12, 13, 4],
+        [2, 12, 12, 3],
+        [4294967295, 15, 12, 4],
+        [2, 12, 17, 4294967295],
+        [4294967295, 4294967295, 4294967295, 33],
+        [4294967295, 4294967295, 4294967295, 4294967295],
+    ] {
+        stepped(rt, s, counts)?;
+    }
+    Ok(())
 }
 
-// Refusals 6 and 13 of an energy reading are tried here.
+// Refusals 6 and 13 of an energy reading are tried here: a tally's counts stand beside the powers of
+// a run, of sleep and of waking.
 fn energies(rt: &impl Print) -> io::Result<()> {
-    say(rt, b"energies\n")?;
-    let forty = tally_of(11, 12, 13, 4);
-    consumed(rt, forty, 23000, 16, 9000)?;
-    consumed(rt, forty, 1000000, 1000000, 1000000)?;
-    consumed(rt, forty, 0, 0, 1000000)?;
-    consumed(rt, forty, 1000001, 16, 9000)?;
-    consumed(rt, forty, 23000, 1000001, 9000)?;
-    consumed(rt, forty, 23000, 16, 1000001)?;
-    consumed(rt, tally_of(1000000000, 0, 0, 0), 1000000, 1000000, 1000000)?;
-    consumed(rt, tally_of(1000000000, 0, 0, 0), 1000000, 0, 0)?;
-    consumed(rt, tally_of(0, 1000000000, 0, 0), 0, 1000000, 0)?;
-    consumed(rt, tally_of(0, 0, 1000000000, 0), 0, 1000000, 0)?;
-    consumed(rt, tally_of(0, 0, 0, 1000000000), 0, 0, 1000000)?;
-    consumed(
-        rt,
-        tally_of(200000000, 300000000, 400000000, 100000000),
-        999999,
-        1000000,
-        999998,
-    )?;
-    consumed(rt, tally_of(1000000000, 0, 1, 0), 1, 1, 1)?;
-    consumed(rt, tally_of(1000000000, 0, 0, 1), 1, 1, 1)?;
-    consumed(rt, tally_of(1000000000, 0, 1, 0), 1000001, 1, 1)?;
-    consumed(rt, tally_of(0, 0, 0, 1000000001), 1, 1, 1000001)?;
-    consumed(rt, tally_of(4294967295, 1, 0, 0), 1, 1, 1)?;
-    consumed(rt, tally_of(0, 0, 1, 4294967295), 1, 1, 1)?;
-    consumed(
-        rt,
-        tally_of(4294967295, 4294967295, 4294967295, 4294967295),
-        1,
-        1,
-        1,
-    )?;
-    consumed(rt, zeros(), 1000000, 1000000, 1000000)?;
-    consumed(rt, zeros(), 0, 0, 1000001)
+    println!(rt; "energies")?;
+    for (counts, powers) in [
+        ([11, 12, 13, 4], [23000, 16, 9000]),
+        ([11, 12, 13, 4], [1000000, 1000000, 1000000]),
+        ([11, 12, 13, 4], [0, 0, 1000000]),
+        ([11, 12, 13, 4], [1000001, 16, 9000]),
+        ([11, 12, 13, 4], [23000, 1000001, 9000]),
+        ([11, 12, 13, 4], [23000, 16, 1000001]),
+        ([1000000000, 0, 0, 0], [1000000, 1000000, 1000000]),
+        ([1000000000, 0, 0, 0], [1000000, 0, 0]),
+        ([0, 1000000000, 0, 0], [0, 1000000, 0]),
+        ([0, 0, 1000000000, 0], [0, 1000000, 0]),
+        ([0, 0, 0, 1000000000], [0, 0, 1000000]),
+        (
+            [200000000, 300000000, 400000000, 100000000],
+            [999999, 1000000, 999998],
+        ),
+        ([1000000000, 0, 1, 0], [1, 1, 1]),
+        ([1000000000, 0, 0, 1], [1, 1, 1]),
+        ([1000000000, 0, 1, 0], [1000001, 1, 1]),
+        ([0, 0, 0, 1000000001], [1, 1, 1000001]),
+        ([4294967295, 1, 0, 0], [1, 1, 1]),
+        ([0, 0, 1, 4294967295], [1, 1, 1]),
+        ([4294967295, 4294967295, 4294967295, 4294967295], [1, 1, 1]),
+        ([0, 0, 0, 0], [1000000, 1000000, 1000000]),
+        ([0, 0, 0, 0], [0, 0, 1000001]),
+    ] {
+        consumed(rt, tally_of(counts), powers)?;
+    }
+    Ok(())
 }
 
 // The state is that of the house table under the worst pattern, before the step at clock t.
 fn house_at(rt: &impl Print, t: u32) -> io::Result<State> {
-    let ran = run_of(rt, &HOUSE, 0, t, 20, 1, Written::Nothing)?;
-    let state = ran.state;
-    given(rt, state, t, 20, 1)
+    let ran = run_of(rt, house(), 0, t, WORST, |_, _, _| Ok(()))?;
+    given(rt, ran.state, t, WORST)
 }
 
-// `Written` says what is written of a run.
-#[derive(Clone, Copy)]
-enum Written {
-    Nothing,
-    Ticks,
-    Drawn,
-    Finishes,
-}
-
-#[derive(Clone, Copy)]
-struct Ran {
-    state: State,
-    tally: Tally,
-}
-
-// A set runs from its start with V up to clock `end`: task 1 is released from tick `first` on, the
-// others from `others` on, each at its period.
-fn run_of(
+// A set runs from its start with V up to clock `end`, and every step is noted: its tick, the state
+// before it, and what it gave.
+fn run_of<const N: usize, F: Fn(u32, &State, &Moved) -> io::Result<()>>(
     rt: &impl Print,
-    table: &[u8],
+    records: [Record; N],
     waking: u32,
     end: u32,
-    first: u32,
-    others: u32,
-    what: Written,
-) -> io::Result<Ran> {
-    let begun = start(table, waking);
-    let mut state = begun.state;
-    let mut tally = zeros();
-    let mut t: u32 = 0;
-    while t < end {
-        state = given(rt, state, t, first, others)?;
-        let moved = step_lent(state, tally);
-        let answer = moved.answer;
-        let after = moved.state;
-        let counts = moved.tally;
-        noted(rt, what, t, state, after, answer)?;
-        state = after;
-        tally = counts;
-        t += 1;
+    pattern: Pattern,
+    note: F,
+) -> io::Result<Ran>
+    requires few { N ≤ 17 }
+    requires callable { F.IsAlwaysCallable note }
+{
+    let mut ran = Ran {
+        state: start(table_of(&records).as_flattened(), waking).state,
+        tally: Tally::default(),
+    };
+    for t in 0..end {
+        let state = given(rt, ran.state, t, pattern)?;
+        let moved = step_lent(state, ran.tally);
+        note(t, &state, &moved)?;
+        ran = Ran {
+            state: moved.state,
+            tally: moved.tally,
+        };
     }
-    Ok(Ran {
-        state: state,
-        tally: tally,
-    })
-}
-
-fn noted(
-    rt: &impl Print,
-    what: Written,
-    t: u32,
-    before: State,
-    after: State,
-    answer: Ticked,
-) -> io::Result<()> {
-    match what {
-        Written::Nothing => Ok(()),
-        Written::Ticks => {
-            number(rt, t)?;
-            ticked(rt, answer)
-        }
-        Written::Drawn => drawn(rt, answer),
-        Written::Finishes => finished(rt, before, after, answer),
-    }
+    Ok(ran)
 }
 
 // Every step of this program goes through here: it is `step` itself, to which the tally is lent.
@@ -511,383 +660,138 @@ fn step_lent(state: State, mut tally: Tally) -> Moved
     let s = step(state, &mut tally);
     Moved {
         answer: s.answer,
-        tally: tally,
+        tally,
         state: s.state,
     }
 }
 
-// The state has every task released that is due at t, in table order and with full demand: task 1
-// at `first` and every period after, the others at `others`. What is refused is written.
-fn given(rt: &impl Print, s: State, t: u32, first: u32, others: u32) -> io::Result<State> {
+// The state has every task released that is due at t, in table order and with full demand. What is
+// refused is written.
+fn given(rt: &impl Print, s: State, t: u32, pattern: Pattern) -> io::Result<State> {
     let mut state = s;
-    let mut i: u32 = 0;
-    while i < 16 {
-        if i < state.n {
-            let e = state.entries[i as usize];
-            let task = e.task;
-            let offset = if i == 0 { first } else { others };
-            if due(t, offset, task.period) {
-                let r = release(state, i + 1, task.work);
-                let after = r.state;
-                let answer = r.answer;
-                refused_at(rt, t, i, answer)?;
-                state = after;
+    for (task, e) in (1..=s.n).zip(s.entries) {
+        let from = if task == 1 {
+            pattern.first
+        } else {
+            pattern.others
+        };
+        if due(t, from, e.task.period) {
+            let r = release(state, task, e.task.work);
+            if r.answer.is_err() {
+                println!(rt; "at {t} task {task} {}", Reply(r.answer))?;
             }
+            state = r.state;
         }
-        i += 1;
     }
     Ok(state)
 }
 
-fn due(t: u32, offset: u32, period: u32) -> bool {
-    if period == 0 {
-        return false;
-    }
-    if t < offset {
-        return false;
-    }
-    (t - offset) % period == 0
-}
-
-fn refused_at(rt: &impl Print, t: u32, i: u32, answer: Answer) -> io::Result<()> {
-    match answer {
-        Answer::Accepted => Ok(()),
-        Answer::Refused(_) => {
-            say(rt, b"at ")?;
-            number(rt, t)?;
-            say(rt, b"task ")?;
-            number(rt, i % 16 + 1)?;
-            answered(rt, answer)
-        }
-    }
+fn due(t: u32, from: u32, period: u32) -> bool {
+    period != 0
+        && t.checked_sub(from)
+            .is_some_and(|past| past.is_multiple_of(period))
 }
 
 // A step and a release on a state write the numbers given, and whether anything changed.
-fn tried(rt: &impl Print, name: &[u8], s: State) -> io::Result<()> {
-    say(rt, name)?;
-    say(rt, b": ")?;
-    let moved = step_lent(s, tally_of(2, 16, 12, 0));
-    let answer = moved.answer;
-    told(rt, answer)?;
-    let after = moved.state;
-    differs(rt, s, after)?;
+fn tried(rt: &impl Print, name: &str, s: State) -> io::Result<()> {
+    let moved = step_lent(s, tally_of([2, 16, 12, 0]));
+    print!(rt;
+        "{name}: {} {} ",
+        Outcome(moved.answer),
+        change(&s, &moved.state)
+    )?;
     asked(rt, s, 2, 1)
 }
 
 // A release writes the number given, and whether anything changed.
 fn asked(rt: &impl Print, s: State, task: u32, demand: u32) -> io::Result<()> {
-    say(rt, b"release ")?;
-    number(rt, task)?;
-    number(rt, demand)?;
     let r = release(s, task, demand);
-    let answer = r.answer;
-    let after = r.state;
-    differs(rt, s, after)?;
-    answered(rt, answer)
-}
-
-// A step with a tally writes the answer, whether the state changed, and the tally after it.
-fn stepped(
-    rt: &impl Print,
-    s: State,
-    run: u32,
-    slot: u32,
-    tail: u32,
-    waking: u32,
-) -> io::Result<()> {
-    say(rt, b"step ")?;
-    let moved = step_lent(s, tally_of(run, slot, tail, waking));
-    let answer = moved.answer;
-    let after = moved.state;
-    let counts = moved.tally;
-    differs(rt, s, after)?;
-    ticked(rt, answer)?;
-    counted(rt, counts)
-}
-
-// A task that the tick left without work finished its job.
-fn finished(rt: &impl Print, before: State, after: State, answer: Ticked) -> io::Result<()> {
-    match answer {
-        Ticked::Refused(_) => Ok(()),
-        Ticked::Tick(tick) => match tick {
-            Tick::Slot => Ok(()),
-            Tick::Tail => Ok(()),
-            Tick::Run(k) => finish(rt, before, after, k),
-        },
-    }
-}
-
-fn finish(rt: &impl Print, before: State, after: State, k: u32) -> io::Result<()> {
-    if k < 1 {
-        return Ok(());
-    }
-    if 16 < k {
-        return Ok(());
-    }
-    let at = (k - 1) as usize;
-    let e = before.entries[at];
-    let f = after.entries[at];
-    let job = e.job;
-    let rest = f.job;
-    match rest {
-        Job::Working {
-            release: _,
-            left: _,
-        } => Ok(()),
-        Job::Resting => match job {
-            Job::Resting => Ok(()),
-            Job::Working { release, left: _ } => {
-                say(rt, b"task ")?;
-                number(rt, k)?;
-                say(rt, b"released at ")?;
-                number(rt, release)?;
-                say(rt, b"finishes at ")?;
-                line(rt, after.clock)
-            }
-        },
-    }
-}
-
-fn consumed(rt: &impl Print, tally: Tally, run: u32, sleep: u32, waking: u32) -> io::Result<()> {
-    let e = energy(tally, run, sleep, waking);
-    let answer = e.answer;
-    print!(rt; "energy {} ", e.nanojoules)?;
-    answered(rt, answer)
-}
-
-fn counted(rt: &impl Print, tally: Tally) -> io::Result<()> {
-    say(rt, b"tally ")?;
-    number(rt, tally.run)?;
-    number(rt, tally.slot)?;
-    number(rt, tally.tail)?;
-    line(rt, tally.waking)
-}
-
-// The line says what a tick was, or the refusal.
-fn ticked(rt: &impl Print, answer: Ticked) -> io::Result<()> {
-    told(rt, answer)?;
-    say(rt, b"\n")
-}
-
-// A sign is a tick: z for slot, a dot for tail, a task's number for its run.
-fn drawn(rt: &impl Print, answer: Ticked) -> io::Result<()> {
-    match answer {
-        Ticked::Refused(_) => say(rt, b"!"),
-        Ticked::Tick(tick) => match tick {
-            Tick::Slot => say(rt, b"z"),
-            Tick::Tail => say(rt, b"."),
-            Tick::Run(k) => print!(rt; "{k}"),
-        },
-    }
-}
-
-fn told(rt: &impl Print, answer: Ticked) -> io::Result<()> {
-    match answer {
-        Ticked::Refused(refusal) => {
-            let t = tell(refusal);
-            say(rt, b"refused ")?;
-            number(rt, t.number)
-        }
-        Ticked::Tick(tick) => match tick {
-            Tick::Slot => say(rt, b"slot "),
-            Tick::Tail => say(rt, b"tail "),
-            Tick::Run(k) => {
-                say(rt, b"run ")?;
-                number(rt, k)
-            }
-        },
-    }
-}
-
-fn answered(rt: &impl Print, answer: Answer) -> io::Result<()> {
-    match answer {
-        Answer::Accepted => say(rt, b"accepted\n"),
-        Answer::Refused(refusal) => {
-            let t = tell(refusal);
-            say(rt, b"refused ")?;
-            number(rt, t.number)?;
-            line(rt, t.place)
-        }
-    }
-}
-
-// The text says whether two states differ in anything.
-fn differs(rt: &impl Print, a: State, b: State) -> io::Result<()> {
-    if sum(a) == sum(b) {
-        say(rt, b"state unchanged ")
-    } else {
-        say(rt, b"state changed ")
-    }
-}
-
-fn shown(rt: &impl Print, s: State) -> io::Result<()> {
-    say(rt, b"n ")?;
-    number(rt, s.n)?;
-    say(rt, b"clock ")?;
-    number(rt, s.clock)?;
-    say(rt, b"V ")?;
-    number(rt, s.waking)?;
-    println!(rt; "sum {}", sum(s))
-}
-
-// The sum is over every field of a state, each at a weight of its own.
-fn sum(s: State) -> u64 {
-    let z = s.sleep;
-    let mut x = mixed(mixed(mixed(17, s.n), s.clock), s.waking);
-    x = recorded(x, z);
-    let entries = s.entries;
-    let mut i: usize = 0;
-    while i < 16 {
-        let e = entries[i];
-        x = entered(x, e);
-        i += 1;
-    }
-    x
-}
-
-fn entered(x: u64, e: Entry) -> u64 {
-    let task = e.task;
-    let job = e.job;
-    let last = e.last;
-    let y = recorded(x, task);
-    let y = match job {
-        Job::Resting => mixed(y, 0),
-        Job::Working { release, left } => mixed(mixed(mixed(y, 1), release), left),
-    };
-    match last {
-        Last::Never => mixed(y, 0),
-        Last::At(a) => mixed(mixed(y, 1), a),
-    }
-}
-
-fn recorded(x: u64, r: Record) -> u64 {
-    mixed(
-        mixed(mixed(mixed(x, r.label), r.work), r.period),
-        r.reserved,
+    println!(rt;
+        "release {task} {demand} {} {}",
+        change(&s, &r.state),
+        Reply(r.answer)
     )
 }
 
-fn mixed(x: u64, y: u32) -> u64 {
-    (x % 1000000007 * 65537 + y as u64 + 1) % 1000000007
+// A step with a tally writes the answer, whether the state changed, and the tally after it.
+fn stepped(rt: &impl Print, s: State, counts: [u32; 4]) -> io::Result<()> {
+    let moved = step_lent(s, tally_of(counts));
+    println!(rt;
+        "step {} {} ",
+        change(&s, &moved.state),
+        Outcome(moved.answer)
+    )?;
+    counted(rt, moved.tally)
 }
 
-fn clocked(s: State, clock: u32) -> State {
-    let mut next = s;
-    next.clock = clock;
-    next
+fn counted(rt: &impl Print, tally: Tally) -> io::Result<()> {
+    println!(rt;
+        "tally {} {} {} {}",
+        tally.run, tally.slot, tally.tail, tally.waking
+    )
 }
 
-fn woken(s: State, waking: u32) -> State {
-    let mut next = s;
-    next.waking = waking;
-    next
+fn consumed(rt: &impl Print, tally: Tally, [run, sleep, waking]: [u32; 3]) -> io::Result<()> {
+    let e = energy(tally, Powers { run, sleep, waking });
+    println!(rt; "energy {} {}", nanojoules(e), Reply(e.map(|_| ())))
 }
 
-fn sized(s: State, n: u32) -> State {
-    let mut next = s;
-    next.n = n;
-    next
-}
-
-fn slept(s: State, sleep: Record) -> State {
-    let mut next = s;
-    next.sleep = sleep;
-    next
-}
-
-// The state has another record at place i, the job and the last release as they are.
-fn tasked(s: State, i: usize, task: Record) -> State {
-    if 15 < i {
-        return s;
+// The text says whether two states differ in anything.
+fn change(a: &State, b: &State) -> &'static str {
+    if a == b {
+        "state unchanged"
+    } else {
+        "state changed"
     }
-    let e = s.entries[i];
-    let job = e.job;
-    let last = e.last;
-    let mut next = s;
-    next.entries[i] = Entry {
-        task: task,
-        job: job,
-        last: last,
+}
+
+// The sum is over every field of a state, each at a weight of its own.
+fn sum(s: &State) -> u64 {
+    let head = mixed(mixed(17, [s.n, s.clock, s.waking]), words_of(s.sleep));
+    s.entries.iter().fold(head, entered)
+}
+
+fn entered(x: u64, e: &Entry) -> u64 {
+    let x = mixed(x, words_of(e.task));
+    let x = match e.job {
+        Job::Resting => mixed(x, [0]),
+        Job::Working { release, left } => mixed(x, [1, release, left]),
     };
-    next
+    match e.last {
+        None => mixed(x, [0]),
+        Some(tick) => mixed(x, [1, tick]),
+    }
+}
+
+fn mixed<const N: usize>(x: u64, words: [u32; N]) -> u64 {
+    words.iter().fold(x, |x, word| {
+        (x % 1000000007 * 65537 + u64::from(*word) + 1) % 1000000007
+    })
+}
+
+// The state has the entry at place i edited.
+fn edited<F: FnOnce(&mut Entry)>(mut s: State, i: usize, edit: F) -> State
+    requires { F.IsAlwaysCallable edit }
+{
+    if let Some(e) = s.entries.get_mut(i) {
+        edit(e);
+    }
+    s
 }
 
 // The state has a task at each place after the fourth.
-fn filled(s: State) -> State {
-    let mut next = s;
-    let mut i: usize = 4;
-    while i < 16 {
-        next = tasked(next, i, record(15, 1, 200, 0));
-        i += 1;
+fn filled(mut s: State) -> State {
+    for e in &mut s.entries[4..] {
+        e.task = record(15, 1, 200);
     }
-    next
+    s
 }
 
-// The state has the task at place i at rest, its last release as given.
-fn lasted(s: State, i: usize, last: Last) -> State {
-    if 15 < i {
-        return s;
-    }
-    let e = s.entries[i];
-    let task = e.task;
-    let mut next = s;
-    next.entries[i] = Entry {
-        task: task,
-        job: Job::Resting,
-        last: last,
-    };
-    next
-}
-
-// The state has the task at place i at work.
-fn worked(s: State, i: usize, release: u32, left: u32, last: Last) -> State {
-    if 15 < i {
-        return s;
-    }
-    let e = s.entries[i];
-    let task = e.task;
-    let mut next = s;
-    next.entries[i] = Entry {
-        task: task,
-        job: Job::Working {
-            release: release,
-            left: left,
-        },
-        last: last,
-    };
-    next
-}
-
-fn record(label: u32, work: u32, period: u32, reserved: u32) -> Record {
-    Record {
-        label: label,
-        work: work,
-        period: period,
-        reserved: reserved,
-    }
-}
-
-fn tally_of(run: u32, slot: u32, tail: u32, waking: u32) -> Tally {
+fn tally_of([run, slot, tail, waking]: [u32; 4]) -> Tally {
     Tally {
-        run: run,
-        slot: slot,
-        tail: tail,
-        waking: waking,
+        run,
+        slot,
+        tail,
+        waking,
     }
-}
-
-fn zeros() -> Tally {
-    tally_of(0, 0, 0, 0)
-}
-
-fn number(rt: &impl Print, n: u32) -> io::Result<()> {
-    print!(rt; "{n} ")
-}
-
-fn line(rt: &impl Print, n: u32) -> io::Result<()> {
-    println!(rt; "{n}")
-}
-
-fn say(rt: &impl Print, text: &[u8]) -> io::Result<()> {
-    rt.write_all(text)
 }

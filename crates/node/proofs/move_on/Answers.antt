@@ -1,11 +1,9 @@
 -- The clock, and in a run the words of the task that ran, one of 1 to 16.
-use Rattle.std.proofs.Common.{◌≡◌, ◌≤◌, ◌+◌, ◌-◌, ℕ, List, true, arith, ap, sym, ◌∙◌}
-use lib.ListN.{length-set}
-use Rattle.decisions.specs.declared.Head.{Head}
+use Rattle.std.proofs.Common.{◌≡◌, ◌≤◌, ◌-◌, ℕ, List, true, arith, sym, ◌∙◌}
 use Rattle.decisions.specs.declared.Tick.TheVariants.{Run}
 use Rattle.scheduler.specs.Steps.{tick_of}
 use Rattle.scheduler.proofs.TickLaws.{run_is_task}
-use Rattle.node.specs.Layout.{clock_at, state_in}
+use Rattle.node.specs.Layout.{state_in}
 use Rattle.node.specs.Calls.{words_fit}
 use Rattle.node.proofs.CallLaws.{fit_says}
 use Rattle.node.proofs.LayoutLaws.{run_put}
@@ -15,13 +13,10 @@ one_of_16 : (words : List ℕ) (task : ℕ) → words_fit words ≡ true → Run
 one_of_16 words task f e = omega (arith, run_is_task (state_in words) task e, (fit_says words f).1.few)
 
 pub work-requires : goal.work-requires
-work-requires c =
-    let t = one_of_16 c.args.state.now c.in-Run.task c.requires.1 (sym c.in-Run.is ∙ c.requires.3) in
-    omega (arith, t, c.requires.0.long, length-set c.args.state.now clock_at (c.args.head.clock + 1))
+work-requires c = omega (arith, one_of_16 c.args.state.now c.in-Run.task c.requires.0 (sym c.in-Run.is ∙ c.requires.2))
 
 pub returns-in-Run : goal.returns-in-Run
 returns-in-Run c =
     let words = c.args.state.now in
-    let t = one_of_16 words c.in-Run.task c.requires.1 (sym c.in-Run.is ∙ c.requires.3) in
-    let clock = ap {A = Head} (λ h. h.clock) c.requires.0.head_is in
-    rw c.in-Run.is (c.work.ensures ∙ rw clock (run_put words (c.in-Run.task - 1) (fit_says words c.requires.1).0 (omega (arith, t))))
+    let t = one_of_16 words c.in-Run.task c.requires.0 (sym c.in-Run.is ∙ c.requires.2) in
+    rw c.in-Run.is (c.work.ensures ∙ run_put words (c.in-Run.task - 1) (fit_says words c.requires.0).0 (omega (arith, t)))

@@ -1,7 +1,0 @@
--- H is no 0, and the wait is the set's, and small.
-use Rattle.std.proofs.Common.{◌+◌, arith}
-use Rattle.admission.proofs.DemandLaws.{sleep_at}
-use Rattle.admission.proofs.figure.Goals as goal
-
-pub wait-requires : goal.wait-requires
-wait-requires c = rw c.record_at-sleep.ensures (omega (arith, sleep_at c.args.table.now (c.args.i + 1) c.requires.0))

@@ -1,9 +1,0 @@
--- There are at most 18 records, and two words of each are given.
-use Rattle.std.proofs.Common.{◌-◌, ◌≤◌}
-use Rattle.many_listings.proofs.drafted.Given as goal
-
-abbrev pub invariant-loop-k : goal.invariant-loop-k
-invariant-loop-k l = l.k ≤ l.n
-
-abbrev pub decreases-loop-k : goal.decreases-loop-k
-decreases-loop-k l = l.n - l.k

@@ -1,9 +1,0 @@
--- There are at most 18 records.
-use Rattle.std.proofs.Common.{◌-◌, ◌≤◌}
-use Rattle.many_listings.proofs.steady.Given as goal
-
-abbrev pub invariant-loop-k : goal.invariant-loop-k
-invariant-loop-k l = l.k ≤ l.count
-
-abbrev pub decreases-loop-k : goal.decreases-loop-k
-decreases-loop-k l = l.count - l.k

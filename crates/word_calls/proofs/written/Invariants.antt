@@ -1,9 +1,0 @@
--- Every word of the buffer is looked at.
-use Rattle.std.proofs.Common.{◌-◌, ◌≤◌}
-use Rattle.word_calls.proofs.written.Given as goal
-
-abbrev pub invariant-loop-i : goal.invariant-loop-i
-invariant-loop-i g l = l.i ≤ l.n
-
-abbrev pub decreases-loop-i : goal.decreases-loop-i
-decreases-loop-i g l = l.n - l.i
