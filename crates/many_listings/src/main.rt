@@ -214,6 +214,7 @@ fn cut<const N: usize>(
     list(rt, name, &table_of(&records).as_flattened()[..len])
 }
 
+// As in vectors and responses: a library function of any N would say more in its contract.
 fn table_of<const N: usize>(records: &[Record; N]) -> [[u8; RECORD_BYTES]; N] {
     array::from_fn(|i| record_bytes(records[i]))
 }
