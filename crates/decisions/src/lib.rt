@@ -9,7 +9,7 @@ ghost use Rattle.base.specs.First.{found_in};
 ghost use Rattle.decisions.specs.declared.Entry.{Entry};
 ghost use Rattle.decisions.specs.Fits.{last_fits, job_fits, task_fits, spare_fits, place_fits, waking_fits, head_fits, total, tally_fits};
 ghost use Rattle.decisions.specs.Asks.{early, ask_spacing, may_release, may_step};
-ghost use Rattle.decisions.specs.Ticks.{since_boundary, last_boundary, in_slot, wakes, came, first_come, next_tick, worked_of, count_of};
+ghost use Rattle.decisions.specs.Ticks.{since_boundary, last_boundary, in_slot, wakes, came, first_come, run_or_tail, next_tick, worked_of, count_of};
 ghost use Rattle.decisions.specs.Energies.{energy_of, nanojoules_of};
 
 use table::{MOST_TASKS, Record, Refusal, record_fits, release_time, sleep_fits};
@@ -288,10 +288,15 @@ pub fn next_tick<P: Places>(head: Head, places: &P) -> Tick
     if in_slot(head) {
         return Tick::Slot;
     }
-    match first_come(places, head.n, last_boundary(head)) {
-        Some(i) => Tick::Run(i + 1),
-        None => Tick::Tail,
-    }
+    let first = first_come(places, head.n, last_boundary(head));
+    run_or_tail(head.n, first.unwrap_or(head.n))
+}
+
+// A tick outside the slot is a run of the task at place i where that is one of the n, else a tail tick.
+pub fn run_or_tail(n: u32, i: u32) -> Tick
+    ensures { result ≡ run_or_tail n i }
+{
+    if i < n { Tick::Run(i + 1) } else { Tick::Tail }
 }
 
 // `first_come` is the first of the n tasks whose job had come by a tick.

@@ -4,6 +4,8 @@
 // said of the program itself.
 #![tactic(auto)]
 
+ghost use Rattle.std.specs.Prelude.{◌≤◌, length, IfOk};
+
 use std::io;
 use std::io::Read;
 
@@ -13,9 +15,25 @@ const ROOM: usize = 273;
 #[tactic(auto, using(texts::proofs::PageLaws::shown_within))]
 fn main(rt: HostRuntime) -> io::Result<()> {
     let mut input = [0; ROOM];
-    let n = io::copy(&mut rt.stdin().take(ROOM as u64), &mut input.as_mut_slice())? as usize;
-    // No more is taken than there is room for, but copy's clauses don't say so.
-    let page = texts::listing(&input[..n.min(ROOM)]);
+    let n = read_full(&mut rt.stdin(), &mut input)?;
+    let page = texts::listing(&input[..n]);
     let text = &page.text[..page.len];
     rt.write_all(text)
+}
+
+// Reads until the buffer is full or the input ends. The result is how many bytes it put at the
+// buffer's start. Not by `io::copy`: a read that was interrupted fails like any other, and `copy`
+// would try it again and again (docs/LOOK-BACK.md, c).
+fn read_full(input: &mut impl Read, buf: &mut [u8]) -> io::Result<usize>
+    ensures { IfOk result (λ n. n ≤ length buf.new) }
+{
+    let mut done = 0;
+    while done < buf.len() {
+        let n = input.read(&mut buf[done..])?;
+        if n == 0 {
+            break;
+        }
+        done += n;
+    }
+    Ok(done)
 }

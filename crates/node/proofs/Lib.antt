@@ -4,7 +4,7 @@ pub mod WordLaws
 pub mod LayoutLaws
 -- These laws take the calls on words by their cases.
 pub mod CallLaws
--- This law says that energy has room above a number.
+-- These laws say that energy has room above a number, and that a refused reading has none there.
 pub mod EnergyLaws
 -- What is saved is read back, and histories go on from it.
 pub mod SavedLaws

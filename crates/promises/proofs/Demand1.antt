@@ -6,6 +6,7 @@ use Rattle.scheduler.proofs.StepLaws.{step_refused}
 use Rattle.scheduler.proofs.StartLaws.{no_state_refused}
 use Rattle.scheduler.proofs.AnswerLaws as laws
 use Rattle.node.proofs.CallLaws as on
+use Rattle.node.proofs.EnergyLaws.{energy_reads_zero}
 use Rattle.promises.specs.Settled.{Settles}
 use Rattle.promises.specs.Settled as settled
 use Rattle.promises.specs.Demand1.{Demand1}
@@ -38,6 +39,7 @@ demand_1 = record {
     start_gives_no_state = laws.start_refused;
     no_state_gets_6 = λ task demand t. let f = no_state_refused task demand t in (f.0, f.1, refl);
     energy_zero = λ t powers r e. rw e;
+    energy_reads_zero = energy_reads_zero;
     admit_leaves_words = on.admit_leaves;
     start_leaves_words = on.start_leaves;
     release_leaves_words = on.release_leaves;

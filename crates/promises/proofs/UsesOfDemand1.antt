@@ -1,6 +1,6 @@
 -- DEMAND 1 is used with its hypotheses met, on the sets and histories of specs/Uses.antt: its parts that have several
 -- sentences, and each call refused.
-use Rattle.std.specs.Prelude.{◌≡◌, refl, [], ◌∷◌, true, Err}
+use Rattle.std.specs.Prelude.{◌/◌, ◌≡◌, refl, [], ◌∷◌, true, Err}
 use Rattle.std.proofs.Common.{arith}
 use Rattle.table.specs.declared.Refusal.TheVariants.{Length, NoWindow, Unfit, OffBoundary, Power, LongWaking}
 use Rattle.table.specs.Sound.{read_of}
@@ -16,7 +16,7 @@ use Rattle.scheduler.specs.Applies.{StartApplies, ReleaseApplies, StepApplies, E
 use Rattle.histories.specs.History.{history}
 use Rattle.scheduler.specs.Starts.{read_given, no_state, start_of}
 use Rattle.node.specs.Layout.{encoded}
-use Rattle.node.specs.Calls.{admit_on, start_on, release_on, step_on}
+use Rattle.node.specs.Calls.{admit_on, start_on, release_on, step_on, energy_on}
 use Rattle.promises.specs.Answers.{start_gives_lem, release_gives_lem, step_gives_lem, energy_gives_lem, unsound_refused}
 use Rattle.promises.specs.Demand1.{RefusedByNumber, Unchanged}
 use Rattle.promises.proofs.Demand1.{demand_1}
@@ -84,3 +84,8 @@ strong = (
   energy_gives_lem no_ticks (powers 23000 16 1000001) Power refl,
   unchanged.energy_zero no_ticks (powers 23000 16 1000001) Power refl,
 )
+
+-- On words that reading gets 13, and reads as 0.
+strong_words : energy_on (0 ∷ 0 ∷ 0 ∷ 0 ∷ []) 23000 16 1000001 / 256 ≡ 0
+unfolding energy_on
+strong_words = unchanged.energy_reads_zero (0 ∷ 0 ∷ 0 ∷ 0 ∷ []) 23000 16 1000001 (omega arith)

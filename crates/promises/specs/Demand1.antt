@@ -2,7 +2,7 @@
 -- above it say what we make of them, call by call, and `demand_1` (proofs/Demand1.antt) shows that all of it holds. What
 -- a number means is `told_of` (table/specs/Refusals.antt); when a refusal applies is said in the words of RULES 3.1,
 -- column "applies when" (specs/Applies.antt of table, admission and scheduler), and `Lowest` is RULES 3.2.
-use Rattle.std.specs.Prelude.{ℕ, ◌%◌, ◌≤◌, ◌≡◌, ◌↔◌, List, Err}
+use Rattle.std.specs.Prelude.{ℕ, ◌/◌, ◌%◌, ◌≤◌, ◌≡◌, ◌↔◌, List, Err}
 use Rattle.table.specs.declared.Refusal.{Refusal}
 use Rattle.table.specs.declared.Refusal.TheVariants.{Unfit}
 use Rattle.table.specs.Refusals.{told_of}
@@ -23,7 +23,7 @@ use Rattle.decisions.proofs as decisions
 use Rattle.decisions.specs.contracts as decisions_contracts
 use Rattle.scheduler.proofs as scheduler
 use Rattle.scheduler.specs.contracts as scheduler_contracts
-use Rattle.node.specs.Calls.{admit_on, start_on, release_on, step_on}
+use Rattle.node.specs.Calls.{admit_on, start_on, release_on, step_on, energy_on}
 use Rattle.node.proofs as node
 use Rattle.node.specs.contracts as node_contracts
 use Rattle.promises.specs.Settled.{Settles}
@@ -55,7 +55,7 @@ pub record RefusedByNumber : Type 0 where
 
 -- All is left unchanged: a refused release hands back the very state, a refused step the very state and tally. A refused
 -- start has no state to hand back: it gives one of no tasks, which every release and step refuses with 6. A refused
--- energy reading is 0.
+-- energy reading is 0, and on words it reads as 0.
 pub record Unchanged : Type 0 where
   pub release_unchanged : (s : State) (task demand : ℕ) (r : Refusal) → (release_of s task demand).answer ≡ Err r → (release_of s task demand).state ≡ s
   pub step_unchanged : (s : State) (t : Tally) (r : Refusal) → (step_of s t).answer ≡ Err r → ((step_of s t).state ≡ s) × ((step_of s t).tally ≡ t)
@@ -63,6 +63,7 @@ pub record Unchanged : Type 0 where
   pub no_state_gets_6 : (task demand : ℕ) (t : Tally)
       → ((release_of no_state task demand).answer ≡ Err Unfit) × ((step_of no_state t).answer ≡ Err Unfit) × ((told_of Unfit).number ≡ 6)
   pub energy_zero : (t : Tally) (powers : Powers) (r : Refusal) → energy_of t powers ≡ Err r → nanojoules_of (energy_of t powers) ≡ 0
+  pub energy_reads_zero : (tally : List ℕ) (run sleep waking : ℕ) → 1 ≤ energy_on tally run sleep waking % 256 → energy_on tally run sleep waking / 256 ≡ 0
   -- A refused call on words, whose low byte is the number, leaves every lent word as it was; but number 5 comes back
   -- with the verdict.
   pub admit_leaves_words : (table words : List ℕ) → 1 ≤ (admit_on table words).answer % 256 → ((admit_on table words).answer % 256 ≡ 5 → ⊥) → (admit_on table words).verdict ≡ words

@@ -140,6 +140,9 @@ next_tick : (P : RattleType) (L : Laws P) (G : Ghosts P.Denot) (d : Dict)
     → SettlesWhere (decisions_contracts.next_tick.ended P G d) (λ κs a. (k : ℕ) → Mem k P.lives → Mem k κs.1.0) (decisions.next_tick.Reads.Asked P L G d) (decisions.next_tick.Reads.Learnt P L G d)
 next_tick P L G d κs a = (λ lives. lives, (settled (λ x v p. (p, refl))).1)
 
+run_or_tail : Settles decisions_contracts.run_or_tail.ended decisions.run_or_tail.Reads.Asked decisions.run_or_tail.Reads.Learnt
+run_or_tail κs a = settled (λ x v p. (p, refl))
+
 count_of : Settles decisions_contracts.count_of.ended decisions.count_of.Reads.Asked decisions.count_of.Reads.Learnt
 count_of κs a = settled (λ x v p. (p, refl))
 

@@ -9,7 +9,7 @@ abbrev told : ℕ → ℕ → ℕ → Told
 told number place rounds = record { number = number; place = place; rounds = rounds }
 
 -- `told_of` is what a refusal comes back with: 1, 4 and 14 come with record 0, 6 to 12 with nothing more, and 13 with
--- energy 0, which stands beside it.
+-- energy 0, which `nanojoules_of` of `decisions` says, and on words `energy_reads_zero` of `promises`.
 abbrev pub told_of : Refusal → Told
 told_of Length = told 1 0 0
 told_of (Broken k) = told 2 k 0

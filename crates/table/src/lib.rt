@@ -126,10 +126,10 @@ pub fn record_bytes(r: Record) -> [u8; RECORD_BYTES]
 pub fn word_at(bytes: &[u8], at: usize) -> u32
     ensures { result ≡ word_at bytes.now at }
 {
-    bytes
-        .get(at..)
-        .and_then(|rest| rest.first_chunk::<4>())
-        .map_or(0, |word| u32::from_le_bytes(*word))
+    if bytes.len() < 4 || bytes.len() - 4 < at {
+        return 0;
+    }
+    word_in(bytes, at)
 }
 
 // `word_in` is `word_at` where the bytes are there: with a test for each word admission took 1.67

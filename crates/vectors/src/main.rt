@@ -338,7 +338,9 @@ fn tables(rt: &impl Print) -> io::Result<()> {
     let s = house_at(rt, 30)?;
     let z = s.sleep;
     let slept = |sleep| State { sleep, ..s };
-    let empty = start(&[], 0).state;
+    let table = table_of(&house());
+    let house = table.as_flattened();
+    let empty = start(&house[..house.len().saturating_sub(1)], 0).state;
     tried(rt, "as it is", s)?;
     tried(
         rt,
