@@ -288,8 +288,10 @@ pub fn next_tick<P: Places>(head: Head, places: &P) -> Tick
     if in_slot(head) {
         return Tick::Slot;
     }
-    let first = first_come(places, head.n, last_boundary(head));
-    run_or_tail(head.n, first.unwrap_or(head.n))
+    match first_come(places, head.n, last_boundary(head)) {
+        Some(i) => run_or_tail(head.n, i),
+        None => Tick::Tail,
+    }
 }
 
 // A tick outside the slot is a run of the task at place i where that is one of the n, else a tail tick.
